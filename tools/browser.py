@@ -1,9 +1,9 @@
 #!/usr/bin/env python3
-"""Drives a real browser, Chromium without a window, by its debugging protocol: for the test of the lesson page, and for
-a picture of it.
+"""Drives a real browser, Chromium without a window, by its debugging protocol: for the tests of the lesson page, the
+worksheets and the rulebook, and for pictures of them.
 
     page.py samples/paper-example.txt > lesson.html
-    browser.py lesson.html lesson-page.png --step 6        the page at step 6 as a picture
+    browser.py lesson.html lesson-page.png --at 6          the page at step 6 as a picture
 """
 
 import argparse
@@ -163,10 +163,10 @@ class Browser:
             self.call("Input.dispatchKeyEvent", type=kind, key=key, code=key)
 
     def click(self, selector):
-        """The mouse on the middle of an element."""
+        """The mouse on the middle of an element, of words in several lines on that of the first."""
         x, y = self.value(
-            f"(({{x, y, width, height}}) => [x + width / 2, y + height / 2])"
-            f"(document.querySelector({json.dumps(selector)}).getBoundingClientRect())"
+            f"(([{{x, y, width, height}}]) => [x + width / 2, y + height / 2])"
+            f"(document.querySelector({json.dumps(selector)}).getClientRects())"
         )
         for kind in ("mousePressed", "mouseReleased"):
             self.call("Input.dispatchMouseEvent", type=kind, x=x, y=y, button="left", clickCount=1)
@@ -184,13 +184,13 @@ def main():
     parser = argparse.ArgumentParser(description=__doc__, formatter_class=argparse.RawDescriptionHelpFormatter)
     parser.add_argument("page", metavar="PAGE.html")
     parser.add_argument("picture", metavar="PICTURE.png", help="a name that ends in .pdf is the page as it is printed")
-    parser.add_argument("--step", type=int, default=0, metavar="N")
+    parser.add_argument("--at", default="", metavar="ADDRESS", help="a step of a lesson, a sentence of the rulebook")
     parser.add_argument("--size", default="1280x900", metavar="WxH")
     arguments = parser.parse_args()
     if not find_browser():
         sys.exit(f"browser: none of {', '.join(PROGRAMS)} is installed")
     with Browser(*map(int, arguments.size.split("x"))) as browser:
-        browser.open(arguments.page, arguments.step)
+        browser.open(arguments.page, arguments.at)
         wanted = browser.paper if arguments.picture.endswith(".pdf") else browser.picture
         Path(arguments.picture).write_bytes(wanted())
 

@@ -6,10 +6,10 @@ example and is passed over. A function must stand in that crate and module. In d
 of that name; everywhere `name` (crate/specs/File) in just that file. A must-fail edit is CRATE/EDIT, with or without backquotes. Lines that say what is gone, and superseded decisions,
 speak of names that were. docs/PROOFS.md quotes the checker's own messages, so of it only edits are looked up.
 
-With the folder that has the papers (01-*.md and 02-*.md; or its path in PAPERS) the quotations of docs/RULES.md, of the index of
-docs/DECISIONS.md and of the comments in crates/*/specs are held to their words, in RULES each sentence to the section or ticket that
-it stands under, and every sentence of the papers is held to have its row there. Two points (..) stand for words left out; the first
-letter may be large or small.
+With the folder that has the papers (00-*.md, the conditions, 01-*.md and 02-*.md; or its path in PAPERS) the quotations of
+docs/RULES.md, of the index of docs/DECISIONS.md and of the comments in crates/*/specs are held to their words, in RULES each sentence
+to the paper or ticket that its section goes through, and every sentence of the papers is held to have its row there. Two points (..)
+stand for words left out; the first letter may be large or small.
 
 Prints what stands nowhere, and ends with 1 then."""
 import argparse
@@ -21,17 +21,6 @@ import sys
 TOP = os.path.dirname(os.path.dirname(os.path.abspath(__file__)))
 SOURCES = (".rt", ".antt", ".py", ".rs", ".sh", ".edit", ".txt", ".h")
 RULES = os.path.join(TOP, "docs", "RULES.md")
-
-# Condition 3 in the words that its definition quotes. They stand in neither paper.
-CONDITION_3 = (
-    "each getting the state that the last one left",
-    "The trades are those the rules yield for the list.",
-    "without holdings or recorded trades",
-    "after a list that ends with an accepted settlement, each account's balance equals opening money + accepted deposits - accepted"
-    " withdrawals + what its trades sold for - what they cost + its net holding at that day's settlement price, trades and holdings"
-    " times the multiplier",
-    "all balances together equal money paid in minus money paid out, opening money counted as paid in",
-)
 
 # Said of a ticket in docs/RULES.md in place of its rows.
 NOT_LANDED = "Not landed"
@@ -194,10 +183,16 @@ def comments_of(source):
     return [" ".join(re.sub(r"^ *-- ?", "", line) for line in block.splitlines()) for block in blocks]
 
 
-class Papers:
-    """Document 01, and document 02 by ticket, where 0 is what stands before the first."""
+# The section of docs/RULES.md that goes through the conditions.
+CONDITIONS = "The conditions"
 
-    def __init__(self, first, second):
+
+class Papers:
+    """The conditions, document 01, and document 02 by ticket, where 0 is what stands before the first."""
+
+    def __init__(self, conditions, first, second):
+        # Under the heading stands one line about the paper, which is not its writer's.
+        self.conditions = Part(re.sub(r"\A# .*\n\n.*\n", "", conditions))
         self.first, self.second = Part(first), Part(second)
         self.headings = plain("\n".join(re.findall(r"(?m)^#+ (.*)$", first + "\n" + second)))
         self.printed = plain("\n".join(re.findall(r"(?ms)^```\n(.*?)^```", first + "\n" + second)))
@@ -206,16 +201,20 @@ class Papers:
         for ticket in tickets:
             number, text = re.match(r"Ticket (\d+)\..*?\*\*(.*)", ticket, re.DOTALL).groups()
             self.tickets[int(number)] = Part(text)
+        self.parts = {CONDITIONS: self.conditions, None: self.first, **self.tickets}
 
     @classmethod
     def at(cls, folder):
-        return cls(*(read(glob.glob(os.path.join(folder, f"{number}-*.md"))[0]) for number in ("01", "02")))
+        return cls(*(read(glob.glob(os.path.join(folder, f"{number}-*.md"))[0]) for number in ("00", "01", "02")))
 
     def have(self, quotation):
-        return any(spans(quotation, text) for text in (self.first.text, self.second.text, self.headings, self.printed))
+        texts = (self.conditions.text, self.first.text, self.second.text, self.headings, self.printed)
+        return any(spans(quotation, text) for text in texts)
 
     def part(self, heading):
-        """The part that a section of docs/RULES.md goes through, by its heading: it, and its number among the tickets."""
+        """The part that a section of docs/RULES.md goes through, by its heading: it, and its key among the parts."""
+        if heading == CONDITIONS:
+            return self.conditions, CONDITIONS
         if not heading.startswith("Document 02"):
             return self.first, None
         ticket = re.match(r"Document 02, ticket (\d+)", heading)
@@ -281,8 +280,7 @@ def places_of(quotation, text):
 def without_rows(rules, papers):
     """The sentences of the papers of which no row of docs/RULES.md quotes half, and how many there are. Tickets that have not
     landed are passed over."""
-    parts = {None: papers.first, **papers.tickets}
-    quoted, open_tickets = {number: set() for number in parts}, set()
+    quoted, open_tickets = {number: set() for number in papers.parts}, set()
     for heading, body in sections(rules):
         part, number = papers.part(heading)
         if NOT_LANDED in body:
@@ -291,7 +289,7 @@ def without_rows(rules, papers):
             for quotation in quotations(cell):
                 quoted[number] |= places_of(quotation, part.text)
     lost, count = [], 0
-    for number, part in parts.items():
+    for number, part in papers.parts.items():
         for a, b in part.sentences if number not in open_tickets else ():
             count += 1
             if 2 * len(quoted[number].intersection(range(a, b))) < b - a:
@@ -300,13 +298,13 @@ def without_rows(rules, papers):
 
 
 def misquoted_in_comments(top, papers):
-    """The quotations in the comments of definitions that are neither paper's words nor condition 3's, and how many there are."""
+    """The quotations in the comments of definitions that are no paper's words, and how many there are."""
     wrong, count = [], 0
     for path in sorted(glob.glob(os.path.join(top, "crates", "*", "specs", "*.antt"))):
         for comment in comments_of(read(path)):
             for quotation in quotations(comment):
                 count += 1
-                if not papers.have(quotation) and not any(spans(quotation, words) for words in CONDITION_3):
+                if not papers.have(quotation):
                     wrong.append(f"{os.path.relpath(path, top)}: {quotation}")
     return wrong, count
 

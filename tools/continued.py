@@ -3,147 +3,135 @@
 
     tools/continued.py samples/continued/first-day.txt samples/continued/second-day.txt
 
-The first lesson is an ordinary day. The library plays its commands, writes the state that it leaves, and reads it again for the next
-lesson, which begins with the text of that state (`tools/statetext.py --help`). Prints the lines of all days; what the lessons expect
-is held to them.
+The first lesson is an ordinary day, or begins from a saved state (`tools/statetext.py --help`). The library plays its commands,
+writes the state that it leaves, and reads it again for the next lesson, which begins with the text of that state. Prints the
+lines of all days, and on standard error which day it is; what the lessons expect is held to the lines.
 
-Exit status: 0 all went well; 1 a lesson expects something else, begins from another state, or a state cannot be written; 2 it was
-not called rightly, or the library is not built.
+Exit status: 0 all went well; 4 a lesson expects something else; 2 it was not called rightly, the library is not built, or a
+lesson begins from another state than the day before it leaves; 20 the first day's file or state is broken; 28 a state cannot be
+saved.
 """
 
 import argparse
 import sys
-from pathlib import Path
 
-TOP = Path(__file__).resolve().parent.parent
-sys.path[:0] = [str(TOP / "tools" / "model"), str(TOP / "include")]
+import daytext
+import engine
+import filekinds
+import lines
+import statetext
+import textfiles
 
-import dayfile  # noqa: E402
-import daytext  # noqa: E402
-import lines  # noqa: E402
-import saved  # noqa: E402
-import statetext  # noqa: E402
-import textfiles  # noqa: E402
-import zelvorm  # noqa: E402
-from zelvorm import lent  # noqa: E402
-
-LIBRARY = TOP / "target" / "library" / "libzelvorm.so"
-
-# Longer than any saved state.
-STATE_MOST = 2_000
+import dayfile
+import saved
 
 
 class Stopped(Exception):
-    """Why the days cannot go on."""
+    """Why the days cannot go on, and the exit status."""
+
+    def __init__(self, status, words):
+        super().__init__(words)
+        self.status = status
 
 
-class Exchange:
-    """A state with its areas, kept over the days."""
-
-    def __init__(self, path):
-        self.library = zelvorm.load(path)
-        self.buys, self.sells = zelvorm.words(zelvorm.QUEUES_WORDS), zelvorm.words(zelvorm.QUEUES_WORDS)
-        self.trades = zelvorm.words(zelvorm.TRADES_WORDS)
-        self.state = zelvorm.State()
-
-    def areas(self):
-        return (*lent(self.buys), *lent(self.sells), *lent(self.trades))
-
-    def open(self, file):
-        opened = self.library.zelvorm_open(*lent(file))
-        if opened.code != 0:
-            raise Stopped(f"the day file is broken, code {opened.code}")
-        self.state = opened.state
-
-    def write(self):
-        """The bytes of the saved state."""
-        out = zelvorm.room(STATE_MOST)
-        written = self.library.zelvorm_write(self.state, *self.areas(), *lent(out))
-        if written.code != 0:
-            raise Stopped(f"the state that the day leaves cannot be written, code {written.code}")
-        return bytes(out[: written.length])
-
-    def read(self, file):
-        loaded = self.library.zelvorm_read(*lent(file), self.state, *self.areas())
-        if loaded.code != 0:
-            raise Stopped(f"the state cannot be read, code {loaded.code}")
-        self.state = loaded.state
-
-    def play(self, commands):
-        """The lines of the commands, as the day runner prints them."""
-        printed = []
-        for number, command in enumerate(commands, 1):
-            before = self.state.tradecount
-            r = self.library.zelvorm_execute(self.state, *self.areas(), zelvorm.Record(*command))
-            self.state = r.state
-            printed.append(("C", number, r.answer.code, r.answer.number, r.answer.traded, r.answer.lots))
-            printed += self.trades_from(before)
-            if command.kind == zelvorm.KIND_SETTLE and r.answer.code == 0:
-                printed += self.settlement(r.report)
-        return "".join(" ".join(map(str, line)) + "\n" for line in printed)
-
-    def trades_from(self, before):
-        for k in range(before, self.state.tradecount):
-            t = zelvorm.Trade.from_buffer(self.trades, 4 * zelvorm.TRADE_STRIDE * k)
-            yield "T", k + 1, t.contract + 1, t.price, t.lots, t.buyorder, t.sellorder
-
-    def settlement(self, report):
-        for c in range(self.state.contractcount):
-            yield "P", c + 1, report.prices[c]
-        for a in range(self.state.accountcount):
-            yield "B", a + 1, report.closing[a], report.holding[a], self.state.accounts[a].balance, report.charged[a]
+def say(words):
+    print(words, file=sys.stderr, flush=True)
 
 
 def held(name, commands, expected, printed):
-    """What the lesson expects and the lines do not show, told."""
+    """Says what the lesson expects and the lines do not show, or how much they do."""
     lesson = daytext.Lesson(dayfile.DayFile([], [], commands), expected, [])
     unmet = daytext.unmet(lesson, lines.read_run(printed))
     for fault in unmet[: daytext.MOST_SHOWN]:
-        print(f"{name}: {fault}", file=sys.stderr)
+        say(f"{name}: {fault}")
+    if not unmet:
+        say(f"{name}: {lines.number_of(lesson.number_expected(), 'expectation')} met")
     return not unmet
 
 
-def play_days(exchange, first, others):
-    """Prints all days. Whether all is as expected."""
-    lesson = read(first, daytext.read_lesson)
-    exchange.open(dayfile.write(lesson.day))
-    printed = exchange.play(lesson.day.commands)
-    textfiles.write_output(printed.encode())
-    met = held(first, lesson.day.commands, lesson.expected, printed)
-    for name in others:
-        file = exchange.write()
-        lesson = read(name, statetext.read_continued)
-        if saved.state_bytes(lesson.state) != file:
-            raise Stopped(f"{name} begins from another state than the day before it leaves:\n{statetext.unpack(file)}")
-        exchange.read(file)
-        printed = exchange.play(lesson.commands)
-        textfiles.write_output(printed.encode())
-        met = held(name, lesson.commands, lesson.expected, printed) and met
-    return met
+def begin(exchange, path, name):
+    """The first day's commands and what is expected of them, the exchange at its beginning."""
+    if kind_of(path) != "continued":
+        lesson = read(path, name, daytext.read_lesson)
+        try:
+            exchange.open(dayfile.write(lesson.day))
+        except engine.Refused as refused:
+            faults = "; ".join(dayfile.faults(dayfile.write(lesson.day)))
+            raise Stopped(refused.code, f"{name}: the day file is broken, {refused}: {faults}") from None
+        return lesson.day.commands, lesson.expected
+    lesson = read(path, name, statetext.read_continued)
+    load(exchange, name, saved.state_bytes(lesson.state), lesson.state)
+    return lesson.commands, lesson.expected
 
 
-def read(name, reader):
+def kind_of(path):
+    return filekinds.kind(textfiles.read(path), daytext.LINES)[0]
+
+
+def load(exchange, name, file, state):
     try:
-        return reader(textfiles.decoded(textfiles.read(name)))
+        exchange.read(file)
+    except engine.Refused as refused:
+        why = statetext.refusal(state)
+        raise Stopped(refused.code, f"{name}: the state cannot be read, {refused}: {why}") from None
+
+
+def next_day(exchange, before, path):
+    """The commands of a day that goes on from the one before it."""
+    try:
+        file = exchange.write()
+    except engine.Refused as refused:
+        why = statetext.why_not_writable(exchange.in_use())
+        raise Stopped(refused.code, f"the state that {before} leaves cannot be saved, {refused}: {why}") from None
+    if kind_of(path) == "lesson":
+        raise Stopped(2, f"{path} is a day by itself: a day that goes on begins with the state's own lines:\n{statetext.unpack(file)}")
+    lesson = read(path, path, statetext.read_continued)
+    if saved.state_bytes(lesson.state) != file:
+        raise Stopped(2, f"{path} begins from another state than the day before it leaves:\n{statetext.unpack(file)}")
+    load(exchange, path, file, lesson.state)
+    return lesson.commands, lesson.expected
+
+
+def play_days(exchange, first, others, called=None):
+    """Prints all days. Whether all is as expected."""
+    all_met, before = True, None
+    for path in (first, *others):
+        name = called if called and before is None else path
+        commands, expected = begin(exchange, path, name) if before is None else next_day(exchange, before, path)
+        say(f"day {exchange.state.settlements + 1}: {name}")
+        printed = exchange.play(commands)
+        textfiles.write_output(printed.encode())
+        all_met = held(name, commands, expected, printed) and all_met
+        before = name
+    return all_met
+
+
+def read(path, name, reader):
+    try:
+        return reader(textfiles.decoded(textfiles.read(path)))
     except daytext.BadText as bad:
-        raise Stopped("\n".join(f"{name}: {fault}" for fault in bad.faults[: daytext.MOST_SHOWN]))
+        raise Stopped(2, "\n".join(f"{name}: {fault}" for fault in bad.faults[: daytext.MOST_SHOWN])) from None
 
 
 def main():
     parser = argparse.ArgumentParser(description=__doc__, formatter_class=argparse.RawDescriptionHelpFormatter)
     parser.add_argument("first", metavar="LESSON", help="the first day")
     parser.add_argument("others", metavar="NEXT", nargs="*", help="the days after it")
-    parser.add_argument("--library", default=LIBRARY, help="the shared library (target/library/libzelvorm.so)")
+    parser.add_argument("--library", help="the shared library (target/library/libzelvorm.so)")
+    parser.add_argument("--called", metavar="NAME", help="the first lesson's name in what is said")
     arguments = parser.parse_args()
-    if not Path(arguments.library).is_file():
-        parser.error(f"no library {arguments.library}: tools/build_library builds it")
     try:
-        met = play_days(Exchange(arguments.library), arguments.first, arguments.others)
+        exchange = engine.Engine(engine.library(arguments.library))
+        met = play_days(exchange, arguments.first, arguments.others, arguments.called)
+    except engine.NotBuilt as not_built:
+        parser.error(str(not_built))
     except Stopped as stopped:
-        sys.exit(str(stopped))
+        say(str(stopped))
+        sys.exit(stopped.status)
     except OSError as error:
-        sys.exit(f"{error.filename}: {error.strerror}")
-    sys.exit(0 if met else 1)
+        say(f"{error.filename}: {error.strerror}")
+        sys.exit(2)
+    sys.exit(0 if met else 4)
 
 
 if __name__ == "__main__":

@@ -31,9 +31,9 @@ before a line and commas in numbers (10,000) are free.
     repeat 64                                            the commands up to end, 64 times
     end
 
-Numbers may be outside the rules, as long as the file can hold them: a lesson may want to show what is refused. For the
-same reason a price may stand after market or best. A contract may end with its pairing method: method 0 is the middle
-price, as where none is named, method 1 the average and method 2 first-in.
+Words are in small letters. Numbers may be outside the rules, as long as the file can hold them: a lesson may want to show
+what is refused. For the same reason a price may stand after market or best. A contract may end with its pairing method:
+method 0 is the middle price, as where none is named, method 1 the average and method 2 first-in.
 
 A line may say what its writer expects of it, behind => on the line or on lines of their own below it:
 
@@ -83,6 +83,17 @@ CONTRACT_WORDS = {
 
 # How much of what is wrong is shown.
 MOST_SHOWN = 100
+
+# Files that are no lessons, and what is said of them.
+NO_LESSONS = {
+    "empty": "the file is empty",
+    "sound": "no text, and so no lesson: a day file, which ./zelvorm unpack turns into a text",
+    "broken": "no text, and so no lesson",
+    "state": "no text, and so no lesson: a saved state",
+    "statement": "no text, and so no lesson: a client statement",
+    "state-text": "the text of a saved state, which tools/statetext.py reads",
+    "continued": "a lesson that begins from a saved state, which has no day file: ./zelvorm takes it",
+}
 
 DAY_RUNNER = Path(__file__).resolve().parents[1] / "target" / "bin" / "dayrun"
 SECONDS_A_FILE = 60
@@ -486,9 +497,16 @@ def note_faults(name, faults):
 def read_file(name, called=None):
     """A file's lesson, or None where it has none, of which all is noted."""
     content = textfiles.read(name)
-    if not filekinds.is_text(content):
-        note(f"{called or name}: no text, and so no lesson")
+    what, words = filekinds.kind(content, LINES)
+    if what in NO_LESSONS:
+        note(f"{called or name}: {NO_LESSONS[what]}")
         return None
+    if len(content) >= filekinds.MOST_BYTES_OF_A_TEXT:
+        note(f"{called or name}: {words}")
+        return None
+    fault = textfiles.encoding_fault(content)
+    if fault:
+        note(f"{called or name}: note: {fault}")
     try:
         return read_lesson(textfiles.decoded(content))
     except BadText as bad:

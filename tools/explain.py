@@ -18,11 +18,11 @@ import sys
 import textwrap
 
 from lessons import explanation
-from lessons.lesson import Differs, Unusable, check_broken, find_runner, play, printed_by, read
+from lessons.lesson import Differs, Unusable, check_broken, play, printed_for, read
 from lessons.margins import charged_by_contract, margin_total
 from lessons.wording import STATE_WORDS, contract_terms, lots_of
 
-import model
+from lines import number_of
 
 WIDTH = 100
 INDENT = "   "
@@ -58,6 +58,9 @@ def opening_text(lesson, state):
     for accounts, balance, is_maker, comment in accounts_at_opening(lesson, state):
         lines.append(f"{accounts_words(accounts, is_maker)} with {balance:,}.")
         lines += all_comments(1, comment)
+    if lesson.is_continued:
+        lines += ["", f"It begins from a saved state, after {number_of(state.settlements, 'settlement')}:"]
+        lines += [row for account in state.balances for row in standing_text(state, account)]
     return "\n".join(lines)
 
 
@@ -169,7 +172,7 @@ def explain(lesson, printed, write, command=0, account=0):
     """Writes the explanation part by part. The whole lesson is played and compared whatever is asked for."""
     lines = explained = day = 0
     if not command:
-        write(opening_text(lesson, model.opening_state(lesson.day)) + "\n")
+        write(opening_text(lesson, lesson.opening) + "\n")
     for step in play(lesson, printed):
         lines += len(step.lines)
         if command not in (0, step.number):
@@ -196,7 +199,7 @@ def check_choice(lesson, command, account):
 
 def run(arguments, write):
     lesson = read(arguments.lesson)
-    printed = printed_by(find_runner(arguments.runner), lesson)
+    printed = printed_for(lesson, arguments.runner)
     if lesson.day is None:
         check_broken(lesson, printed)
         write(f"{lesson.name}: the file is broken, so that no command of it is carried out.")

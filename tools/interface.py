@@ -90,7 +90,7 @@ class Code:
     sentence: str
 
 
-# Names for the codes of the papers' tables; the sentences are README's.
+# Names for the codes of the papers' tables; the sentences are those of docs/CODES.md.
 CODES = {
     0: "ACCEPTED",
     1: "MALFORMED",
@@ -316,8 +316,8 @@ def kinds(top):
 
 
 def codes(top):
-    """README's table of codes."""
-    rows = re.findall(r"^\| (\d+) \| (.+) \|$", (top / "README.md").read_text(), re.MULTILINE)
+    """The table of codes in docs/CODES.md."""
+    rows = re.findall(r"^\| (\d+) \| (.+) \|$", (top / "docs" / "CODES.md").read_text(), re.MULTILINE)
     return [Code(int(number), CODES[int(number)], sentence.replace("`", "")) for number, sentence in rows]
 
 

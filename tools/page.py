@@ -15,14 +15,14 @@ import argparse
 import html
 import json
 import re
-import sys
 from pathlib import Path
 
 import lessons
 from lessons import explanation
-from lessons.lesson import Differs, Unusable, check_broken, find_runner, play, printed_by, read
+from lessons.lesson import play
+from lessons.making import playable, write_made
 from lessons.margins import charged_by_contract
-from lessons.wording import STATE_WORDS, contract_terms, figure
+from lessons.wording import STATE_WORDS, contract_terms, figure, holdings_words
 
 import model
 
@@ -59,17 +59,6 @@ def account_data(state, account):
         "value": state.balances[account],
         "charged": figure(charged),
     }
-
-
-def holdings_words(state, account):
-    """3 long, or with several contracts a line for each: 1: 3 long, 2 short"""
-    words = []
-    for contract in state.contracts:
-        held = [(state.holdings[account, contract, side], side) for side in ("long", "short")]
-        sides = ", ".join(f"{lots:,} {side}" for lots, side in held if lots)
-        if sides:
-            words.append(f"{contract}: {sides}" if len(state.contracts) > 1 else sides)
-    return "\n".join(words) or "none"
 
 
 def state_data(state):
@@ -119,7 +108,7 @@ def trade_data(place, trade):
 
 def page_data(lesson, printed):
     """All that the page shows."""
-    state = model.opening_state(lesson.day)
+    state = lesson.opening
     opening = after = state_data(state)
     steps, active = [], set()
     for step in play(lesson, printed):
@@ -162,13 +151,7 @@ def part(name):
 
 
 def run(arguments):
-    lesson = read(arguments.lesson)
-    printed = printed_by(find_runner(arguments.runner), lesson)
-    if lesson.day is None:
-        check_broken(lesson, printed)
-        faults = "; ".join(lesson.faults)
-        raise Unusable(f"{lesson.name}: the file is broken, and nothing of it is carried out: {faults}")
-    return page(lesson, printed)
+    return page(*playable(arguments.lesson, arguments.runner))
 
 
 def main():
@@ -176,22 +159,7 @@ def main():
     parser.add_argument("lesson", metavar="LESSON", help="a day file or a text lesson; - for standard input")
     parser.add_argument("--runner", metavar="RUNNER", help="the day runner's command line, if not target/bin/dayrun")
     arguments = parser.parse_args()
-    try:
-        sys.stdout.buffer.write(run(arguments).encode())
-        sys.stdout.flush()
-    except Unusable as unusable:
-        finish(2, unusable)
-    except Differs as differs:
-        finish(1, f"no page is made: {differs}")
-    except OSError as error:
-        # The interpreter would try once more at its end, and complain.
-        sys.stdout = None
-        finish(2, f"standard output: {error.strerror}")
-
-
-def finish(status, message):
-    print(f"page: {message}", file=sys.stderr)
-    sys.exit(status)
+    write_made("page", lambda: run(arguments))
 
 
 if __name__ == "__main__":

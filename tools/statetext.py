@@ -214,8 +214,25 @@ def refusal(state):
     if not saved.totals_are_equal(state):
         return "a contract's long and short totals differ: code 30"
     if not saved.is_writable(state):
-        return "the state is not writable, code 28: not every contract is in pre-open without orders and trades"
+        return f"the state is not writable, code 28: {why_not_writable(state)}"
     return None
+
+
+def why_not_writable(state):
+    """Each thing that keeps a state from being saved, and what is to be done."""
+    reasons = [
+        f"contract {number} is in {contract.state}"
+        for number, contract in state.contracts.items()
+        if contract.state != "pre-open"
+    ]
+    resting = sum(len(queue) for contract in state.contracts.values() for queue in contract.queues.values())
+    for count, what in ((len(state.trades), "trade"), (resting, "resting order")):
+        reasons += [f"the day has {lines.number_of(count, what)}"] if count else []
+    if state.next_order_number > 1 or state.next_stamp > 1:
+        reasons.append(f"the next order number is {state.next_order_number}, the next time stamp {state.next_stamp}")
+    if not saved.totals_are_equal(state):
+        reasons.append("a contract's long and short totals differ")
+    return f"{'; '.join(reasons)}. A state is saved after its settlement: close every contract, then settle"
 
 
 def output_of(lesson):

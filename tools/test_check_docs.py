@@ -1,5 +1,6 @@
 """Tests of check_docs.py: what it finds missing, misplaced, misquoted or without a row, and what it passes over."""
 import os
+import re
 import tempfile
 import unittest
 from pathlib import Path
@@ -38,6 +39,15 @@ class Missing(unittest.TestCase):
         self.assertEqual(check_docs.main(), 0)
 
 
+class Contents(unittest.TestCase):
+    def test_rules_lists_its_sections(self):
+        """Each section of docs/RULES.md is in its contents, in turn, with the address that a heading has."""
+        text = Path(check_docs.RULES).read_text()
+        headings = re.findall(r"(?m)^## (.*)$", text)
+        listed = re.findall(r"\[([^\]]*)\]\(#([^)]*)\)", re.search(r"(?m)^Contents: .*$", text)[0])
+        self.assertEqual(listed, [(heading, re.sub(r"[^\w\- ]", "", heading.lower()).replace(" ", "-")) for heading in headings])
+
+
 class Places(unittest.TestCase):
     def setUp(self):
         folder = tempfile.TemporaryDirectory()
@@ -74,6 +84,14 @@ class Places(unittest.TestCase):
         self.assertEqual(check_docs.undefined_in_files(wrong, str(self.top)), ["rules/specs/Matching: charge", "matching/specs/Margin: charge"])
 
 
+CONDITIONS = """# The conditions
+
+Words about this paper.
+
+I write the manual.
+
+1. Every command gets an answer. Reason: firms retry.
+"""
 FIRST = """# What the build includes
 
 Prices: 1 to 1,000,000. A trade has a price (house); its lots are *whole*.
@@ -98,6 +116,12 @@ Land them one by one.
 **Ticket 2. Margin.** The larger side counts.
 """
 RULES = """# The rules
+
+## The conditions
+
+| "I write the manual." | |
+| "Every command gets an answer." | |
+| "Reason: firms retry." | |
 
 ## Numbers
 
@@ -127,7 +151,7 @@ Not landed: this is the place of its rows.
 
 class Quotations(unittest.TestCase):
     def setUp(self):
-        self.papers = Papers(FIRST, SECOND)
+        self.papers = Papers(CONDITIONS, FIRST, SECOND)
 
     def assert_misquoted(self, old, new, expected):
         self.assertEqual(RULES.count(old), 1, old)
@@ -138,8 +162,8 @@ class Quotations(unittest.TestCase):
         self.assertEqual(check_docs.without_rows(RULES.replace(old, new), self.papers)[0], expected)
 
     def test_right(self):
-        self.assertEqual(check_docs.misquoted(RULES, self.papers), ([], 11))
-        self.assertEqual(check_docs.without_rows(RULES, self.papers), ([], 10))
+        self.assertEqual(check_docs.misquoted(RULES, self.papers), ([], 14))
+        self.assertEqual(check_docs.without_rows(RULES, self.papers), ([], 13))
 
     def test_another_word(self):
         self.assert_misquoted("1 to 1,000,000.", "1 to 1,000,001.", ["Numbers: Prices: 1 to 1,000,001."])
@@ -149,6 +173,12 @@ class Quotations(unittest.TestCase):
     def test_words_left_out(self):
         self.assert_misquoted("price ..; its", "price; its", ["Numbers: A trade has a price; its lots are whole."])
         self.assert_misquoted("price ..; its lots are whole", "lots are whole .. price", ["Numbers: A trade has a lots are whole .. price."])
+
+    def test_the_conditions(self):
+        self.assert_misquoted("Every command gets", "Each command gets", ["The conditions: Each command gets an answer."])
+        self.assert_misquoted("I write the manual.", "A trade has a price", ["The conditions: A trade has a price"])
+        self.assert_lost('| "Reason: firms retry." | |\n', "", ["Reason: firms retry."])
+        self.assertFalse(self.papers.have("Words about this paper."))
 
     def test_within_a_word(self):
         self.assert_misquoted("each queue is sorted", "each queue is sort", ["Numbers: each queue is sort"])
@@ -175,7 +205,7 @@ class Quotations(unittest.TestCase):
             os.makedirs(os.path.join(folder, "crates", "rules", "specs"))
             path = os.path.join("crates", "rules", "specs", "Bounds.antt")
             with open(os.path.join(folder, path), "w") as file:
-                file.write(source + '-- "what they cost", "it sold for", "What the build includes", "C 1 0 0 0 0"\n')
+                file.write(source + '-- "I write the manual", "it sold for", "What the build includes", "C 1 0 0 0 0"\n')
             wrong = check_docs.misquoted_in_comments(folder, self.papers)
         self.assertEqual(wrong, ([f"{path}: it sold for"], 6))
 

@@ -23,7 +23,10 @@ def play(*names):
 class Days(unittest.TestCase):
     def test_two_days(self):
         played = play(SAMPLES / "first-day.txt", SAMPLES / "second-day.txt")
-        self.assertEqual((played.returncode, played.stderr), (0, ""))
+        self.assertEqual(played.returncode, 0)
+        names = [SAMPLES / "first-day.txt", SAMPLES / "second-day.txt"]
+        said = [f"day {day}: {name}\n{name}: 21 expectations met\n" for day, name in enumerate(names, 1)]
+        self.assertEqual(played.stderr, "".join(said))
         self.assertEqual(played.stdout, "".join((SAMPLES / f"{day}-day.out").read_text() for day in ("first", "second")))
 
     def test_one_day(self):
@@ -36,7 +39,7 @@ class Days(unittest.TestCase):
             other = Path(folder) / "other.txt"
             other.write_text(text)
             played = play(SAMPLES / "first-day.txt", other)
-        self.assertEqual(played.returncode, 1)
+        self.assertEqual(played.returncode, 2)
         self.assertIn("begins from another state than the day before it leaves", played.stderr)
         self.assertIn("account 10020", played.stderr)
 
@@ -46,13 +49,32 @@ class Days(unittest.TestCase):
             other = Path(folder) / "other.txt"
             other.write_text(text)
             played = play(SAMPLES / "first-day.txt", other)
-        self.assertEqual(played.returncode, 1)
+        self.assertEqual(played.returncode, 4)
         self.assertIn("other.txt: line", played.stderr)
 
     def test_a_day_that_cannot_be_written(self):
         played = play(TOP / "samples" / "03-middle-price.txt", SAMPLES / "second-day.txt")
-        self.assertEqual(played.returncode, 1)
-        self.assertIn("cannot be written, code 28", played.stderr)
+        self.assertEqual(played.returncode, 28)
+        self.assertIn("cannot be saved, code 28: contract 1 is in continuous; the day has 7 trades; the next order", played.stderr)
+        self.assertIn("close every contract, then settle", played.stderr)
+
+    def test_a_second_day_by_itself(self):
+        played = play(SAMPLES / "second-day.txt")
+        self.assertEqual((played.returncode, played.stdout), (0, (SAMPLES / "second-day.out").read_text()))
+        self.assertTrue(played.stderr.startswith("day 2: "))
+
+    def test_a_day_that_does_not_go_on(self):
+        played = play(SAMPLES / "first-day.txt", SAMPLES / "first-day.txt")
+        self.assertEqual(played.returncode, 2)
+        self.assertIn("is a day by itself", played.stderr)
+
+    def test_a_broken_day(self):
+        with tempfile.TemporaryDirectory() as folder:
+            broken = Path(folder) / "broken.txt"
+            broken.write_text((SAMPLES / "first-day.txt").read_text().replace("rate 1000", "rate 0"))
+            played = play(broken)
+        self.assertEqual(played.returncode, 20)
+        self.assertIn("contract 1: rate not 1 to 10,000", played.stderr)
 
 
 class Called(unittest.TestCase):

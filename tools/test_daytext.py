@@ -17,6 +17,7 @@ import generate
 import lines
 import make_test_days
 import model
+import statements
 import textfiles
 import words
 
@@ -278,10 +279,10 @@ class NearWords(unittest.TestCase):
 
     def test_misspelt(self):
         self.assert_meant("depositt 1 5", "deposit")
-        self.assert_meant("Settle", "settle")
+        self.assertEqual(faults(HEAD + "Settle")[0].message, "'Settle' should be in small letters: settle")
         self.assert_meant("pull 1 contract 1 operater", "operator")
         self.assert_meant("state 1 continous", "continuous")
-        self.assert_meant("insert 1 contract 1 Buy open limit 100 lots 5 day", "buy")
+        self.assert_meant("insert 1 contract 1 Byu open limit 100 lots 5 day", "buy")
 
     def test_every_name_means_one_word_of_a_line(self):
         """No other name is a word that could stand in the same place."""
@@ -566,21 +567,67 @@ class Expect(unittest.TestCase):
         self.assertEqual(set(expectations.EXPECTED_OF), set(daytext.LINES) - {"repeat", "end"})
 
 
+class Hints(unittest.TestCase):
+    """What is said of words that a keyboard or a habit makes."""
+
+    def assert_hint(self, line, *messages):
+        self.assertEqual([fault.message for fault in faults(HEAD + line)], list(messages))
+
+    def test_capital_letters(self):
+        self.assert_hint("SETTLE", "'SETTLE' should be in small letters: settle")
+        self.assert_hint("state 1 Continuous", "'Continuous' should be in small letters: continuous")
+
+    def test_full_width_characters(self):
+        self.assert_hint("ｓｅｔｔｌｅ", "'ｓｅｔｔｌｅ' is in full-width letters: write settle")
+        number = "where a whole number (amount) should stand: the digits are full-width; write"
+        self.assert_hint("deposit 1 １０００", f"'１０００' {number} 1000")
+        self.assert_hint("deposit 1 １，０００", f"'１，０００' {number} 1,000")
+        self.assert_hint("settle ＝＞ code 18", "'＝＞' is one word too many; the characters are full-width: write =>")
+
+    def test_points_between_thousands(self):
+        for word in ("10.000", "10'000", "10_000"):
+            self.assert_hint(
+                f"deposit 1 {word}",
+                f"'{word}' where a whole number (amount) should stand: write 10,000; thousands are set apart by commas, or"
+                " not at all",
+            )
+        self.assert_hint("deposit 1 10.5", "'10.5' where a whole number (amount) should stand")
+
+    def test_other_arrows(self):
+        for arrow in ("->", "→", "⇒"):
+            self.assert_hint(f"settle {arrow} code 18", f"'{arrow}' is one word too many; did you mean =>?")
+
+    def test_encodings(self):
+        self.assertIsNone(textfiles.encoding_fault("# Größe\n".encode()))
+        self.assertIsNone(textfiles.encoding_fault("# Größe\n".encode("utf-16")))
+        fault = textfiles.encoding_fault("settle\n# Größe\n".encode("latin-1"))
+        self.assertEqual(fault, "not UTF-8: a byte of line 2 is no character. Save the text as UTF-8")
+
+    def test_long_texts(self):
+        kind, words_of_it = filekinds.kind(b"settle\n" * 400_000, daytext.LINES)
+        self.assertEqual((kind, words_of_it), ("other", "a text of 2,800,000 bytes, and no lesson is that long"))
+
+
 class FileKinds(unittest.TestCase):
     def assert_kind(self, content, *kind):
         self.assertEqual(filekinds.kind(content, daytext.LINES), kind)
 
     def test_day_files(self):
         self.assert_kind(daytext.pack(HEAD), "sound", "1 contract, 1 account, 0 commands")
-        self.assert_kind(b"", "broken", "cut in the count of contracts (0 of its 4 bytes are there)")
+        self.assert_kind(b"", "empty", "no bytes")
+        self.assert_kind(b"\0", "broken", "cut in the count of contracts (1 of its 4 bytes are there)")
         spoilt = HEAD.replace("reference 100", "reference 101").replace("tick 1", "tick 10")
         self.assert_kind(daytext.pack(spoilt), "broken", "contract 1: reference off tick")
 
     def test_samples(self):
         for pattern, kind in (
             ("*.day", "sound"),
-            ("broken/*.day", "broken"),
+            ("broken/[!e]*.day", "broken"),
+            ("broken/empty.day", "empty"),
             ("*.txt", "lesson"),
+            ("continued/first-day.txt", "lesson"),
+            ("continued/second-day.txt", "continued"),
+            ("continued/first-day.state", "state"),
             ("*.out", "other"),
             ("*.md", "other"),
         ):
@@ -588,6 +635,18 @@ class FileKinds(unittest.TestCase):
             self.assertTrue(paths)
             for path in paths:
                 self.assertEqual(filekinds.kind(path.read_bytes(), daytext.LINES)[0], kind, path)
+
+    def test_statements(self):
+        """A statement of two clients and one contract, whole and cut."""
+        made = statements.statement_bytes(
+            model.opening_state(dayfile.read(daytext.pack(HEAD))),
+            2,
+            {client: {1: statements.Start(0, 0)} for client in (1, 2)},
+            [],
+            {(client, 1, held): 0 for client in (1, 2) for held in ("long", "short")},
+        )
+        self.assert_kind(made, "statement", "2 clients, 0 trades")
+        self.assertEqual(filekinds.kind(made[:-1], daytext.LINES)[0], "broken")
 
     def test_generated_files(self):
         """No day file, broken in whatever way, is taken for something else."""
@@ -651,7 +710,10 @@ class Tool(unittest.TestCase):
     def test_the_wrong_way_round(self):
         self.assert_ended(self.run_tool("unpack", "-", given=HEAD.encode()), 1, "", "-: a text already\n")
         self.assert_ended(
-            self.run_tool("pack", "-", given=daytext.pack(HEAD)), 1, "", "-: no text, and so no lesson\n"
+            self.run_tool("pack", "-", given=daytext.pack(HEAD)),
+            1,
+            "",
+            "-: no text, and so no lesson: a day file, which ./zelvorm unpack turns into a text\n",
         )
 
     def test_missing_file(self):

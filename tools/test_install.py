@@ -188,7 +188,7 @@ class Built(InRoom):
         self.assertFalse(self.is_current())
 
     def test_takes_the_lock_of_run(self):
-        self.assertIn(".run.lock", (TOP / "run").read_text())
+        self.assertIn("take_lock ", (TOP / "run").read_text())
         holder = subprocess.Popen(["flock", self.top / ".run.lock", "cat"], stdin=subprocess.PIPE, stdout=subprocess.DEVNULL)
         while subprocess.run(["flock", "-n", self.top / ".run.lock", "true"]).returncode == 0:
             pass
@@ -313,7 +313,7 @@ class Installed(InRoom):
         names = sorted(line.split()[2].split("@")[0] for line in lines if line.split()[1] != "A")
         self.assertEqual(names, CALLS)
 
-    @unittest.skipUnless(has("cc", "c++", "cmake", "make", "pkg-config"), "no cc, c++, cmake, make or pkg-config here")
+    @unittest.skipUnless(has("cc", "c++", "cmake", "make", "pkg-config", "cargo"), "not every compiler of the document is here")
     def test_the_document_s_programs(self):
         self.install()
         printed = None

@@ -23,7 +23,7 @@ LIBRARY = TOP / "target" / "library"
 EXAMPLES = TOP / "examples"
 DAY = TOP / "samples" / "paper-example.day"
 WANTED = {"day": TOP / "samples" / "paper-example.out"} | {
-    name: EXAMPLES / f"{name}.out" for name in ("bundle", "asking", "statement")
+    name: EXAMPLES / f"{name}.out" for name in ("bundle", "asking", "statement", "tomorrow")
 }
 
 
@@ -140,7 +140,7 @@ class Source(unittest.TestCase):
 
 
 class CodeWords(unittest.TestCase):
-    """Each language has README's words for each code, and the same sizes."""
+    """Each language has the words of docs/CODES.md for each code, and the same sizes."""
 
     def setUp(self):
         folder = tempfile.TemporaryDirectory()
@@ -236,18 +236,18 @@ class Examples(unittest.TestCase):
             self.assertEqual((made.returncode, made.stderr), (0, ""))
             self.assert_prints(name, program, DAY)
 
-    @needs("rustc")
+    @needs("cargo")
     def test_rust(self):
+        folder = TOP / "target" / "cargo"
+        quietly = ("--offline", "--quiet", "--target-dir", folder)
+        made = compiled("cargo", "build", *quietly, "--manifest-path", EXAMPLES / "rust" / "Cargo.toml")
+        self.assertEqual((made.returncode, made.stderr), (0, ""))
         for name in WANTED:
-            program = self.room / name
-            links = ("-L", f"native={LIBRARY}", "-l", "static=zelvorm")
-            made = compiled("rustc", "--edition", "2021", "-D", "warnings", *links, "-o", program, EXAMPLES / "rust" / f"{name}.rs")
-            self.assertEqual((made.returncode, made.stderr), (0, ""))
-            self.assert_prints(name, program, DAY)
+            self.assert_prints(name, folder / "debug" / name, DAY)
 
     def test_python(self):
         for name in WANTED:
-            self.assert_prints(name, sys.executable, EXAMPLES / "python" / f"{name}.py", LIBRARY / "libzelvorm.so", DAY)
+            self.assert_prints(name, sys.executable, EXAMPLES / "python" / f"{name}.py", DAY)
 
     # A day file of another day, a broken one among them, prints what the runner prints for it.
     @needs("cc")

@@ -34,6 +34,15 @@ def page_of_text(text):
     return page.page(of, model.run(of.file).decode())
 
 
+def first_steps(text, count):
+    """The page of a lesson that ends after so many commands."""
+    whole = lesson.lesson_of("lesson.txt", daytext.pack(text), text)
+    day = whole.day._replace(commands=whole.day.commands[:count])
+    first = whole._replace(day=day, comments={**whole.comments, "command": whole.comments["command"][:count]})
+    lines = lesson.lines_by_command(model.run(whole.file).decode())[: count + 1]
+    return page.page(first, "".join(f"{line}\n" for group in lines for line in group))
+
+
 def data_in(text):
     """The lesson that a page holds."""
     return json.loads(re.search(r'<script id="lesson" type="application/json">(.*?)</script>', text, re.DOTALL)[1])
@@ -339,17 +348,18 @@ class InABrowser(unittest.TestCase):
 
     def test_scales_know_nothing_of_what_lies_ahead(self):
         """The ladder's rows, the axis of prices and the heights in the pictures are those of a lesson that ends here."""
-        text = (SAMPLES / "profit-of-five-days.txt").read_text()
-        whole = lesson.lesson_of("lesson.txt", daytext.pack(text), text)
-        for step in (3, 7, 13, 20):
-            day = whole.day._replace(commands=whole.day.commands[:step])
-            first = whole._replace(day=day, comments={**whole.comments, "command": whole.comments["command"][:step]})
-            lines = lesson.lines_by_command(model.run(whole.file).decode())[: step + 1]
-            printed = "".join(f"{line}\n" for group in lines for line in group)
-            self.open_page(f"first-{step}", lambda: page.page(first, printed), step)
-            alone = self.browser.value(SCALES)
-            self.open("profit-of-five-days", step)
-            self.assertEqual(self.browser.value(SCALES), alone, f"step {step}")
+        days = (SAMPLES / "profit-of-five-days.txt").read_text()
+        wide = HEAD.replace("band 10", "band 90") + "state 1 continuous\n" + "".join(
+            f"insert {account} contract 1 {side} open limit {price} lots 1 day\n"
+            for price in (102, 150, 60)
+            for account, side in ((1, "sell"), (2, "buy"))
+        )
+        for name, text, steps in (("five-days", days, (3, 7, 13, 20)), ("wide", wide, (1, 3, 5))):
+            for step in steps:
+                self.open_page(f"{name}-{step}", lambda: first_steps(text, step), step)
+                alone = self.browser.value(SCALES)
+                self.open_page(name, lambda: page_of_text(text), step)
+                self.assertEqual(self.browser.value(SCALES), alone, f"{name}, step {step}")
 
     def test_balances_begin_in_the_middle(self):
         self.open("profit-of-five-days", 1)
@@ -411,6 +421,18 @@ class InABrowser(unittest.TestCase):
         self.assertEqual(self.browser.value("document.querySelector('#answers').value"), "after")
         self.browser.press("a")
         self.assert_paper_step(3)
+
+    def test_a_second_day(self):
+        """A lesson that begins from a saved state: its days are counted on, and what is held stands at the opening."""
+        text = SAMPLES / "continued" / "second-day.txt"
+        made = lambda: page.page(lesson.read(str(text)), text.with_suffix(".out").read_text())
+        self.open_page("second-day", made)
+        shown = self.shown()
+        self.assertEqual([row[1] for row in shown["accounts"]], ["5 short", "5 long", "none"])
+        self.assertEqual(self.browser.value("document.querySelector('#trades h3').innerText").lower(), "trades of day 2")
+        self.browser.press("End")
+        names = "[...document.querySelectorAll('#balances title')].map((node) => node.textContent.split(':')[0])"
+        self.assertEqual(self.browser.value(names), ["opening", "day 2"] * 3)
 
     def test_a_refusal_and_two_contracts(self):
         self.open("margin-of-three-days", step=12)

@@ -13,6 +13,7 @@ import unittest
 from pathlib import Path
 
 import make_test_days
+from front import statuses
 
 TOP = Path(__file__).resolve().parents[1]
 SAMPLES = make_test_days.SAMPLES
@@ -21,10 +22,11 @@ IS_REAL = DAY_RUNNER.exists()
 
 EXAMPLE = SAMPLES / "paper-example.day"
 LINES = (SAMPLES / "paper-example.out").read_bytes()
+MET = "25 expectations met\n"
 
 # What ./run and the stand-in call.
 COMMANDS = (
-    "awk cat cp dirname find flock head mkdir mktemp mv od readlink rm rmdir sed sh sha256sum sleep sort touch tr wc"
+    "awk cat cp date dirname find flock head mkdir mktemp mv od readlink rm rmdir sed setsid sh sha256sum sleep sort touch tr wc"
 ).split()
 
 KIT = """#!/bin/sh
@@ -33,12 +35,20 @@ case $1 in
 version) cat "$kit/version" ;;
 check)
     mkdir "$kit/busy" || {{ touch "$kit/clash"; exit 2; }}
+    trap 'rmdir "$kit/busy"; exit 143' TERM
     echo "$*" >>"$kit/calls"
     how='1 s'
     [ ! -e target/stamp/dayrun ] || how='unchanged since it was last proved'
+    mkdir -p target/log
+    echo proved >target/log/one.res
+    echo failed >target/log/two.res
     echo "rt: one proved (1 s)"
     echo "logic=proved"
-    sleep "$(cat "$kit/seconds")"
+    # As rt does: a background command, which does not take Ctrl-C.
+    sleep "$(cat "$kit/seconds")" &
+    echo $! >"$kit/new"
+    mv "$kit/new" "$kit/prover"
+    wait $!
     echo "rt: two proved (unchanged since it was last proved)"
     if [ -e "$kit/edit" ]; then rm "$kit/edit"; echo more >>crates/one/src/lib.rt; fi
     if [ -e "$kit/fails" ]; then echo "rt: dayrun NOT PROVED (exit 1, 0 s)"; rmdir "$kit/busy"; exit 1; fi
@@ -128,19 +138,22 @@ class Files(RunTest):
         super().setUp()
         self.build()
 
-    def assert_runs(self, *arguments, **others):
-        self.assertEqual(self.run_run(*arguments, **others), (0, LINES, ""))
+    def assert_runs(self, *arguments, said="", **others):
+        self.assertEqual(self.run_run(*arguments, **others), (0, LINES, said))
 
     def test_samples(self):
         for name in ("paper-example", "full-book", "12-pairing-methods", *(["largest-file"] if IS_REAL else [])):
             expected = (SAMPLES / f"{name}.out").read_bytes()
-            for file in (SAMPLES / f"{name}.day", SAMPLES / f"{name}.txt"):
-                self.assertEqual(self.run_run(file), (0, expected, ""))
+            self.assertEqual(self.run_run(SAMPLES / f"{name}.day"), (0, expected, ""))
+            file = SAMPLES / f"{name}.txt"
+            status, output, said = self.run_run(file)
+            self.assertEqual((status, output), (0, expected))
+            self.assertRegex(said, f"^{file}: (expects nothing|[0-9,]+ expectations? met)\n$")
 
     def test_standard_input_and_pipes(self):
-        for path in (EXAMPLE, EXAMPLE.with_suffix(".txt")):
+        for path, said in ((EXAMPLE, ""), (EXAMPLE.with_suffix(".txt"), f"standard input: {MET}")):
             with open(path, "rb") as file:
-                self.assert_runs("-", stdin=file)
+                self.assert_runs("-", stdin=file, said=said)
         reader, writer = os.pipe()
         os.write(writer, EXAMPLE.read_bytes())
         os.close(writer)
@@ -161,12 +174,13 @@ class Files(RunTest):
             shutil.copy(EXAMPLE, self.room / name)
             self.assert_runs("--", name, cwd=self.room)
         self.lesson(EXAMPLE.with_suffix(".txt").read_bytes(), "-x.txt")
-        self.assert_runs("--", "-x.txt", cwd=self.room)
+        self.assert_runs("--", "-x.txt", cwd=self.room, said=f"-x.txt: {MET}")
 
     def test_lessons(self):
         text = EXAMPLE.with_suffix(".txt").read_text()
         for content in (text.encode("utf-16"), text.encode("utf-8-sig"), text.replace("\n", "\r\n").encode()):
-            self.assert_runs(self.lesson(content))
+            path = self.lesson(content)
+            self.assert_runs(path, said=f"{path}: {MET}")
         path = self.lesson(text.replace("cancel 1", "cancl 1").replace("lots 2 day", "lots 2 gfd"))
         status, output, errors = self.run_run(path)
         self.assertEqual((status, output), (2, b""))
@@ -183,7 +197,7 @@ class Files(RunTest):
 
     def test_broken_files(self):
         for name, reason in (
-            ("empty", "cut in the count of contracts (0 of its 4 bytes are there)"),
+            ("cut-in-the-count-of-contracts", "cut in the count of contracts (3 of its 4 bytes are there)"),
             ("reference-off-tick", "contract 1: reference off tick"),
             ("one-byte-less", "cut in the commands (8 counted, 7 there whole)"),
             ("contracts-5", "contracts not 1 to 4"),
@@ -191,6 +205,10 @@ class Files(RunTest):
         ):
             path = SAMPLES / "broken" / f"{name}.day"
             self.assertEqual(self.run_run(path), (20, b"X 20\n", f"run: {path} is broken: {reason}\n"))
+        state = SAMPLES / "continued" / "first-day.state"
+        status, output, errors = self.run_run(state)
+        self.assertEqual((status, output), (2, b""))
+        self.assertIn(f"run: {state} is a saved state (1 contract, 3 accounts, after 1 settlement), without commands", errors)
         path = self.lesson(EXAMPLE.with_suffix(".txt").read_text().replace("rate 1000", "rate 0"))
         reason = "contract 1: rate not 1 to 10,000"
         self.assertEqual(self.run_run(path), (20, b"X 20\n", f"run: {path} is broken: {reason}\n"))
@@ -219,6 +237,11 @@ class Refusals(RunTest):
             status, output, errors = self.run_run(option)
             self.assertEqual((status, errors), (0, ""))
             self.assertTrue(output.startswith(b"usage: run FILE\n"))
+            for status, words in statuses.rows():
+                self.assertIn(f"  {status.ljust(9)}{words}\n", output.decode())
+
+    def test_built(self):
+        self.assertEqual(self.run_run("--built"), (1, b"", ""))
 
     def test_what_is_no_day_file(self):
         self.assert_refused(SAMPLES, words=f"{SAMPLES} is a directory")
@@ -227,7 +250,12 @@ class Refusals(RunTest):
         self.assert_refused(SAMPLES / "paper-example.out", words="is a day runner's lines, which tools/lines.py reads")
         self.assert_refused(self.lesson(b"%PDF-1.7\n\0"), words="is a PDF document")
         self.assert_refused(self.lesson(b"\x7fELF\2\1\1\0"), words="is a program")
-        self.assert_refused("/dev/zero", words="is longer than any day file or lesson")
+        self.assert_refused("/dev/zero", words="has 2000000 bytes or more: no day file is that long")
+        self.assert_refused(self.lesson("settle\n" * 1_500_000), words="is a text of 2000000 bytes or more: no lesson is that long")
+        self.assert_refused(self.lesson(""), words="is empty: neither a day file nor a lesson")
+        self.assert_refused(self.lesson("# a comment\n"), words="is a text that says nothing")
+        state = (SAMPLES / "continued" / "second-day.txt").read_text().partition("state 1 continuous")[0]
+        self.assert_refused(self.lesson(state), words="is the text of a saved state, without commands")
 
     def test_lesson_with_faults(self):
         self.assert_refused(self.lesson("contract 5"), words="line 1, column 10: '5' where multiplier should stand")
@@ -238,7 +266,11 @@ class Refusals(RunTest):
 
     def test_no_flock(self):
         (self.bin / "flock").unlink()
-        self.assert_refused(EXAMPLE, words="install util-linux")
+        self.assert_refused(EXAMPLE, words="no flock here: install util-linux")
+
+    def test_no_setsid(self):
+        (self.bin / "setsid").unlink()
+        self.assert_refused(EXAMPLE, words="no setsid here: install util-linux")
 
     def test_no_python(self):
         (self.bin / "python3").unlink()
@@ -287,7 +319,8 @@ class Without(RunTest):
         status, output, errors = self.run_run(SAMPLES / "broken" / "tick-0.day")
         self.assertEqual((status, output), (20, b"X 20\n"))
         self.assertIn("is broken (with Python 3 installed", errors)
-        self.assertEqual(self.run_run(SAMPLES / "broken" / "empty.day")[:2], (20, b"X 20\n"))
+        self.assertEqual(self.run_run(SAMPLES / "broken" / "empty.day")[:2], (2, b""))
+        self.assertEqual(self.run_run(SAMPLES / "continued" / "first-day.state")[:2], (20, b"X 20\n"))
 
     @unittest.skipUnless(IS_REAL, "nobody may not reach this Python")
     def test_folder_that_can_only_be_read(self):
@@ -302,7 +335,7 @@ class Writes(RunTest):
 
     @unittest.skipUnless(Path("/dev/full").exists(), "no /dev/full")
     def test_full_disk(self):
-        for path in (EXAMPLE, EXAMPLE.with_suffix(".txt"), SAMPLES / "broken" / "empty.day"):
+        for path in (EXAMPLE, EXAMPLE.with_suffix(".txt"), SAMPLES / "broken" / "tick-0.day"):
             with open("/dev/full", "wb") as full:
                 status, _, errors = self.run_run(path, stdout=full)
             self.assertEqual(status, 3)
@@ -415,29 +448,72 @@ class AtOnce(RunTest):
         self.assertEqual(self.calls(), 1)
         self.assertEqual(len([errors for _, errors, _ in ended if b"waiting for another run" in errors]), 5)
 
-    def test_after_one_was_killed(self):
-        """What a killed run has started goes on, and nobody proves beside it."""
-        (self.kit / "seconds").write_text("1\n")
-        killed = self.start(EXAMPLE, stdout=subprocess.DEVNULL, stderr=subprocess.DEVNULL)
-        self.wait_for(self.kit / "busy")
-        killed.kill()
-        killed.wait()
-        self.assertTrue((self.kit / "busy").exists())
+    def started(self, seconds, **others):
+        """A run that proves, for so many seconds; what the stand-in has at work."""
+        (self.kit / "seconds").write_text(f"{seconds}\n")
+        run = self.start(EXAMPLE, start_new_session=True, **others)
+        self.wait_for(self.kit / "prover")
+        return run, int((self.kit / "prover").read_text())
+
+    def assert_ends(self, prover):
+        """A process that is at work is gone soon."""
+        for _ in range(500):
+            try:
+                os.kill(prover, 0)
+            except ProcessLookupError:
+                return
+            if b") Z " in Path(f"/proc/{prover}/stat").read_bytes():
+                return
+            time.sleep(0.01)
+        self.fail("the prover is still at work")
+
+    def assert_next_run_proves(self):
+        (self.kit / "seconds").write_text("0\n")
         self.assertEqual(self.run_run(EXAMPLE)[:2], (0, LINES))
         self.assertEqual(self.calls(), 2)
+
+    def test_after_one_was_killed(self):
+        """Nothing that it has started is left at work, although it could not end it."""
+        killed, prover = self.started(60, stdout=subprocess.DEVNULL, stderr=subprocess.DEVNULL)
+        killed.kill()
+        killed.wait()
+        self.assert_ends(prover)
+        self.assert_next_run_proves()
         # A killed run cannot clear up behind itself.
         for left in self.temporary.iterdir():
             shutil.rmtree(left)
 
-    def test_interrupted(self):
-        (self.kit / "seconds").write_text("1\n")
-        interrupted = self.start(EXAMPLE, start_new_session=True)
-        self.wait_for(self.kit / "busy")
-        os.killpg(interrupted.pid, signal.SIGINT)
-        interrupted.communicate()
-        self.assertEqual(interrupted.returncode, 130)
-        (self.kit / "busy").rmdir()
-        self.assertEqual(self.run_run(EXAMPLE)[:2], (0, LINES))
+    def test_ended_by_a_signal(self):
+        """Ctrl-C, which the whole group gets, and signals to the run alone: it ends at once, and the prover with it."""
+        for ends, status in (
+            (lambda run: os.killpg(run.pid, signal.SIGINT), 130),
+            (lambda run: run.terminate(), 143),
+            (lambda run: run.send_signal(signal.SIGHUP), 129),
+        ):
+            for path in (self.kit / "prover", self.kit / "calls"):
+                path.unlink(missing_ok=True)
+            shutil.rmtree(self.top / "target", ignore_errors=True)
+            run, prover = self.started(60)
+            ends(run)
+            began = time.monotonic()
+            self.assertIn(b"run: ending the proof\n", run.communicate()[1])
+            self.assertLess(time.monotonic() - began, 10)
+            self.assertEqual(run.returncode, status)
+            self.assert_ends(prover)
+            self.assert_next_run_proves()
+
+    def test_silence_is_broken(self):
+        """A run that proves and one that waits tell what is at work and how much is left."""
+        text = (self.top / "run").read_text()
+        (self.top / "run").write_text(text.replace('/tools/proving.sh"\n', '/tools/proving.sh"\nQUIET=1\n'))
+        proves, _ = self.started(4)
+        waits = self.start(EXAMPLE)
+        (proving, waiting) = (run.communicate()[1].decode() for run in (proves, waits))
+        self.assertEqual((proves.returncode, waits.returncode), (0, 0))
+        told = r"run: 1 of 3 crates proved; at work: two; [0-9]+ s so far, roughly a minute left\n"
+        self.assertRegex(proving, told)
+        self.assertRegex(waiting, told)
+        self.assertTrue(waiting.startswith("run: waiting for another run, which proves and builds\n"), waiting)
 
 
 if __name__ == "__main__":

@@ -95,6 +95,13 @@ class Sheets(unittest.TestCase):
         self.assertNotIn("C 1 0 0 0 0", blank)
         self.assertIn("price lots", blank)
 
+    def test_what_is_held_at_the_start(self):
+        """Of a lesson that begins from a saved state; others hold nothing."""
+        path = SAMPLES / "continued" / "second-day.txt"
+        sheet = worksheet.worksheet(lesson.read(str(path)), path.with_suffix(".out").read_text(), False)
+        self.assertIn("Held at the start: account 1 (5 short), account 2 (5 long).", words_of(sheet))
+        self.assertNotIn("Held at the start", words_of(sheet_of_sample("paper-example", False)))
+
     def test_marks_in_a_comment(self):
         sheet = sheet_of_text(HEAD + "# <b>1 & 2</b>\nsettle\n", False)
         self.assertIn("&lt;b&gt;1 &amp; 2&lt;/b&gt;", sheet)

@@ -38,6 +38,19 @@ def decoded(content):
     return text.replace("\r\n", "\n").replace("\r", "\n")
 
 
+def encoding_fault(content):
+    """Where a text has bytes that are no characters of its encoding, in words; None where it has none."""
+    for mark, encoding in (*BYTE_ORDER_MARKS, (b"", encoding_without_mark(content))):
+        if content.startswith(mark):
+            break
+    try:
+        content[len(mark) :].decode(encoding)
+    except UnicodeDecodeError as error:
+        line = content[: len(mark) + error.start].count(b"\n") + 1
+        return f"not {encoding.upper()}: a byte of line {line} is no character. Save the text as UTF-8"
+    return None
+
+
 def encoding_without_mark(content):
     """UTF-16 where every second byte of the text's beginning is 0 and no other is."""
     beginning = content[:BYTES_LOOKED_AT]
@@ -49,13 +62,19 @@ def encoding_without_mark(content):
     return "utf-8"
 
 
+def put_out(content):
+    """All bytes to standard output."""
+    sys.stdout.flush()
+    sys.stdout.buffer.write(content)
+    sys.stdout.buffer.flush()
+
+
 def write_output(content):
     """All bytes to standard output. Ends the tool where they cannot be written."""
     try:
         if sys.stdout is None:
             sys.exit("standard output is closed")
-        sys.stdout.buffer.write(content)
-        sys.stdout.buffer.flush()
+        put_out(content)
     except OSError as error:
         # The interpreter would try once more at its end, and complain.
         sys.stdout = None

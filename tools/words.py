@@ -6,6 +6,12 @@ import re
 NUMBER = re.compile("[0-9]+|[0-9]{1,3}(,[0-9]{3})+")
 # A word that was meant as a number, right or not.
 NUMBER_LIKE = re.compile("[-+.,]?[0-9]")
+# Thousands set apart by something else than commas.
+NUMBER_WITH_POINTS = re.compile("[0-9]{1,3}([.'_\u00a0\u2019][0-9]{3})+")
+# Full-width characters, as some keyboards give them, by those that are meant.
+FULL_WIDTH = {0xFEE0 + plain: plain for plain in range(ord("!"), ord("~") + 1)}
+# What people write for =>.
+ARROWS = ("->", "-->", "==>", "=", ">", "\u2192", "\u21d2")
 
 # What people write for a word of a lesson.
 MEANT_BY = {
@@ -63,14 +69,36 @@ def listed(choices):
     return " or ".join(filter(None, (", ".join(choices[:-1]), choices[-1])))
 
 
+def plain_form(word):
+    """A word with plain characters in place of full-width ones."""
+    return word.translate(FULL_WIDTH)
+
+
 def meant(word, choices):
     """The one of the choices that was meant by a word, as far as can be told."""
-    plain = word.lower()
+    plain = plain_form(word).lower()
     for choice in choices:
         if plain == choice or plain in MEANT_BY.get(choice, "").split():
             return choice
     near = difflib.get_close_matches(plain, choices, n=1)
     return near[0] if near else None
+
+
+def number_hint(word):
+    """How a number that was meant is written, as far as can be told."""
+    plain = plain_form(word)
+    if plain != word and NUMBER.fullmatch(plain):
+        return f": the digits are full-width; write {plain}"
+    if NUMBER_WITH_POINTS.fullmatch(plain):
+        return f": write {re.sub('[^0-9]', ',', plain)}; thousands are set apart by commas, or not at all"
+    return ""
+
+
+def arrow_hint(word):
+    plain = plain_form(word)
+    if plain != word and plain.startswith("=>"):
+        return "; the characters are full-width: write =>"
+    return "; did you mean =>?" if plain in ARROWS else ""
 
 
 class Words:
@@ -105,17 +133,22 @@ class Words:
         message = f"'{word}' where {listed(choices)} should stand"
         near = meant(word, choices)
         if near is None:
-            raise Wrong(column, message)
-        self.note(column, f"{message}; did you mean {near}?")
+            raise Wrong(column, message + arrow_hint(word))
+        if plain_form(word) == near:
+            self.note(column, f"'{word}' is in full-width letters: write {near}")
+        elif word.lower() == near:
+            self.note(column, f"'{word}' should be in small letters: {near}")
+        else:
+            self.note(column, f"{message}; did you mean {near}?")
         return near
 
     def number(self, name, most):
         column, word = self.take(f"a number ({name})")
         if not NUMBER.fullmatch(word):
             message = f"'{word}' where a whole number ({name}) should stand"
-            if not NUMBER_LIKE.match(word):
-                raise Wrong(column, message)
-            self.note(column, message)
+            if not NUMBER_LIKE.match(plain_form(word)):
+                raise Wrong(column, message + arrow_hint(word))
+            self.note(column, message + number_hint(word))
             return 0
         digits = word.replace(",", "").lstrip("0") or "0"
         if len(digits) > len(str(most)) or int(digits) > most:
@@ -145,7 +178,7 @@ class Words:
 
     def optional_number(self, name, most):
         """The number if one stands next, else 0."""
-        if self.words and self.next()[0].isdecimal():
+        if self.words and plain_form(self.next())[0].isdecimal():
             return self.number(name, most)
         return 0
 
@@ -157,4 +190,4 @@ class Words:
     def end(self):
         if self.words:
             column, word = self.words[0]
-            raise Wrong(column, f"'{word}' is one word too many")
+            raise Wrong(column, f"'{word}' is one word too many{arrow_hint(word)}")

@@ -21,12 +21,12 @@ from pathlib import Path
 
 import lessons
 from lessons import explanation
-from lessons.lesson import Differs, Unusable, check_broken, find_runner, play, printed_by, read
-from lessons.wording import contract_terms, figure, numbers_from_1
+from lessons.lesson import play
+from lessons.making import playable, write_made
+from lessons.wording import contract_terms, figure, holdings_words, numbers_from_1
 
 import dayfile
 import lines
-import model
 
 FORM = Path(lessons.__file__).parent / "worksheet.html"
 # More commands than this are many pages: a note says so.
@@ -75,6 +75,10 @@ def opening(lesson, state):
     if len(set(state.balances.values())) == 1 and not state.makers and len(balances) > 1:
         balances = [f"{numbers_from_1('account', len(balances))}: {figure(state.balances[1])} each"]
     blocks.append(text("p", sentence(f"Opening balances: {', '.join(balances)}")))
+    held = [(account, holdings_words(state, account).replace("\n", "; ")) for account in state.balances]
+    held = [f"account {account} ({words})" for account, words in held if words != "none"]
+    if held:
+        blocks.append(text("p", sentence(f"Held at the start: {', '.join(held)}")))
     return "".join(blocks)
 
 
@@ -196,7 +200,7 @@ def workings(step, told):
 
 
 def worksheet(lesson, printed, with_answers):
-    state = model.opening_state(lesson.day)
+    state = lesson.opening
     title = Path(lesson.name).stem.replace("-", " ").capitalize()
     parts, day = [], 0
     for step in play(lesson, printed):
@@ -222,12 +226,7 @@ def footer(with_answers):
 
 
 def run(arguments):
-    lesson = read(arguments.lesson)
-    printed = printed_by(find_runner(arguments.runner), lesson)
-    if lesson.day is None:
-        check_broken(lesson, printed)
-        faults = "; ".join(lesson.faults)
-        raise Unusable(f"{lesson.name}: the file is broken, and nothing of it is carried out: {faults}")
+    lesson, printed = playable(arguments.lesson, arguments.runner)
     if len(lesson.day.commands) > MANY_COMMANDS:
         print(f"worksheet: {len(lesson.day.commands):,} commands, which are many pages", file=sys.stderr)
     return worksheet(lesson, printed, arguments.answers)
@@ -239,22 +238,7 @@ def main():
     parser.add_argument("--answers", action="store_true", help="the sheet with the answers and their workings")
     parser.add_argument("--runner", metavar="RUNNER", help="the day runner's command line, if not target/bin/dayrun")
     arguments = parser.parse_args()
-    try:
-        sys.stdout.buffer.write(run(arguments).encode())
-        sys.stdout.flush()
-    except Unusable as unusable:
-        finish(2, unusable)
-    except Differs as differs:
-        finish(1, f"no worksheet is made: {differs}")
-    except OSError as error:
-        # The interpreter would try once more at its end, and complain.
-        sys.stdout = None
-        finish(2, f"standard output: {error.strerror}")
-
-
-def finish(status, message):
-    print(f"worksheet: {message}", file=sys.stderr)
-    sys.exit(status)
+    write_made("worksheet", lambda: run(arguments))
 
 
 if __name__ == "__main__":

@@ -8,7 +8,7 @@
 #include "zelvorm.h"
 
 static uint32_t buys[ZELVORM_QUEUES_WORDS], sells[ZELVORM_QUEUES_WORDS], trades[ZELVORM_TRADES_WORDS];
-static uint8_t file[50000], out[4096];
+static uint8_t file[ZELVORM_DAY_FILE_BYTES + 1], out[ZELVORM_STATEMENT_BYTES];
 
 /* The three areas, as each call takes them. */
 #define AREAS buys, ZELVORM_QUEUES_WORDS, sells, ZELVORM_QUEUES_WORDS, trades, ZELVORM_TRADES_WORDS
@@ -57,8 +57,10 @@ int main(int count, char **words) {
     uint32_t postings[][4] = {{2, 1, 3, 2}, {2, 1, 3, 1}};
     for (int k = 0; k < 2; k++) {
         zelvorm_statement told = zelvorm_client_statement(state, AREAS, 2, 2, starts, 16, postings[k], 4, out, sizeof out);
-        printf("statement: code %u, %zu bytes\n", told.code, told.length);
-        if (told.code == ZELVORM_CODE_ACCEPTED) print_statement(out, (uint32_t)state.contractcount);
+        if (told.code == ZELVORM_CODE_ACCEPTED)
+            print_statement(out, (uint32_t)state.contractcount);
+        else
+            printf("statement refused, code %u: %s\n", told.code, zelvorm_code_words(told.code));
     }
     return 0;
 }

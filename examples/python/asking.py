@@ -1,49 +1,41 @@
 #!/usr/bin/env python3
 """asking.py: how much could I get? An order is asked about before it is sent.
 
-    asking.py target/library/libzelvorm.so samples/paper-example.day
+    asking.py samples/paper-example.day
 """
 
 import sys
 from pathlib import Path
 
-sys.path.insert(0, str(Path(__file__).resolve().parents[2] / "include"))
+# Not needed where the package is installed.
+sys.path.insert(0, str(Path(__file__).resolve().parents[2] / "bindings" / "python"))
 
-import zelvorm
-from zelvorm import CONTINUOUS, FLAG_SELL, KIND_INSERT, KIND_PHASE, Record, lent
+from zelvorm import Exchange, Gettable, Insert, Phase, PhaseChange, Refused, Side
 
-BUY = 0
-
-library = zelvorm.load(sys.argv[1])
-file = Path(sys.argv[2]).read_bytes()
-buys, sells = zelvorm.words(zelvorm.QUEUES_WORDS), zelvorm.words(zelvorm.QUEUES_WORDS)
-trades = zelvorm.words(zelvorm.TRADES_WORDS)
-
-# The three areas, as each call takes them.
-areas = (*lent(buys), *lent(sells), *lent(trades))
+exchange = Exchange.open(Path(sys.argv[1]).read_bytes()).exchange
 
 
-def order(account, flags, lots, price):
-    return Record(kind=KIND_INSERT, account=account, contract=1, flags=flags, lots=lots, price=price)
+def send(command):
+    answer = exchange.execute(command)
+    print(f"sent: code 0, traded {answer.traded}, rested {answer.lots}")
 
 
-def send(state, command):
-    r = library.zelvorm_execute(state, *areas, command)
-    print(f"sent: code {r.answer.code}, traded {r.answer.traded}, rested {r.answer.lots}")
-    return r.state
+def ask(order):
+    try:
+        code, asked = 0, exchange.gettable(order)
+    except Refused as refused:
+        code, asked = refused.code.value, Gettable(0, 0)
+    print(f"{order.lots} lots at {order.price}: code {code}, would trade {asked.lots}, orders read {asked.orders_read}")
 
 
-def ask(state, command):
-    r = library.zelvorm_gettable(state, *areas, command)
-    print(f"{command.lots} lots at {command.price}: code {r.code}, would trade {r.lots}, orders read {r.read}")
+def buy(lots, price):
+    return Insert(account=2, contract=1, side=Side.BUY, lots=lots, price=price)
 
 
-state = library.zelvorm_open(*lent(file)).state
-state = send(state, Record(kind=KIND_PHASE, contract=1, flags=CONTINUOUS))
-state = send(state, order(1, FLAG_SELL, 2, 102))
-state = send(state, order(1, FLAG_SELL, 4, 103))
-state = send(state, order(1, FLAG_SELL, 5, 105))
-ask(state, order(2, BUY, 1, 102))
-ask(state, order(2, BUY, 9, 104))
-ask(state, order(2, BUY, 9, 111))
-send(state, order(2, BUY, 9, 104))
+send(PhaseChange(contract=1, phase=Phase.CONTINUOUS))
+for lots, price in ((2, 102), (4, 103), (5, 105)):
+    send(Insert(account=1, contract=1, side=Side.SELL, lots=lots, price=price))
+ask(buy(1, 102))
+ask(buy(9, 104))
+ask(buy(9, 111))
+send(buy(9, 104))

@@ -1,45 +1,31 @@
 #!/usr/bin/env python3
 """bundle.py: a firm's morning orders in one call. One of them is refused, and the others stand.
 
-    bundle.py target/library/libzelvorm.so samples/paper-example.day
+    bundle.py samples/paper-example.day
 """
 
 import sys
 from pathlib import Path
 
-sys.path.insert(0, str(Path(__file__).resolve().parents[2] / "include"))
+# Not needed where the package is installed.
+sys.path.insert(0, str(Path(__file__).resolve().parents[2] / "bindings" / "python"))
 
-import zelvorm
-from zelvorm import CONTINUOUS, FLAG_SELL, KIND_INSERT, KIND_PHASE, Record, lent
-
-BUY = 0
-
-
-def order(account, flags, lots, price):
-    return Record(kind=KIND_INSERT, account=account, contract=1, flags=flags, lots=lots, price=price)
-
-
-library = zelvorm.load(sys.argv[1])
-file = Path(sys.argv[2]).read_bytes()
-buys, sells = zelvorm.words(zelvorm.QUEUES_WORDS), zelvorm.words(zelvorm.QUEUES_WORDS)
-trades = zelvorm.words(zelvorm.TRADES_WORDS)
+from zelvorm import Answer, Exchange, Insert, Phase, PhaseChange, Refused, Side
 
 morning = [
-    Record(kind=KIND_PHASE, contract=1, flags=CONTINUOUS),
-    order(1, FLAG_SELL, 5, 102),
-    order(1, FLAG_SELL, 3, 111),  # above the day's high
-    order(1, BUY, 4, 98),
-    order(2, BUY, 6, 102),
+    PhaseChange(contract=1, phase=Phase.CONTINUOUS),
+    Insert(account=1, contract=1, side=Side.SELL, lots=5, price=102),
+    Insert(account=1, contract=1, side=Side.SELL, lots=3, price=111),  # above the day's high
+    Insert(account=1, contract=1, side=Side.BUY, lots=4, price=98),
+    Insert(account=2, contract=1, side=Side.BUY, lots=6, price=102),
 ]
-answers = zelvorm.words(4 * len(morning))
-day = library.zelvorm_open(*lent(file))
-r = library.zelvorm_bundle(
-    day.state, *lent(buys), *lent(sells), *lent(trades), *lent(b"".join(map(bytes, morning))), *lent(answers)
-)
-print(f"bundle: code {r.code}")
-if r.code != zelvorm.CODE_ACCEPTED:
-    sys.exit(1)
-for k in range(len(morning)):
-    code, number, traded, lots = answers[4 * k : 4 * k + 4]
-    print(f"command {k + 1}: code {code}, order {number}, traded {traded}, rested {lots}")
-print(f"resting: {r.state.buycounts[0]} buys, {r.state.sellcounts[0]} sells")
+exchange = Exchange.open(Path(sys.argv[1]).read_bytes()).exchange
+answers = exchange.bundle(morning)
+print("bundle: code 0")
+for k, answer in enumerate(answers, 1):
+    code = 0
+    if isinstance(answer, Refused):
+        code, answer = answer.code.value, Answer(0, 0, 0)
+    print(f"command {k}: code {code}, order {answer.order}, traded {answer.traded}, rested {answer.lots}")
+buys, sells = (len(list(exchange.orders(side, 1))) for side in Side)
+print(f"resting: {buys} buys, {sells} sells")

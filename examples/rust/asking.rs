@@ -2,55 +2,33 @@
 //!
 //!     asking samples/paper-example.day
 
-#[path = "../../include/zelvorm.rs"]
-mod zelvorm;
+use zelvorm::{Command, Exchange, NewOrder, Phase, Price, Refusal, Side};
 
-use zelvorm::{Record, State, CONTINUOUS, FLAG_SELL, KIND_INSERT, KIND_PHASE};
-
-const BUY: u8 = 0;
-
-const NOTHING: Record = Record { kind: 0, account: 0, contract: 0, flags: 0, lots: 0, price: 0, number: 0, amount: 0 };
-
-fn order(account: u8, flags: u8, lots: u32, price: u32) -> Record {
-    Record { kind: KIND_INSERT, account, contract: 1, flags, lots, price, ..NOTHING }
+fn send(exchange: &mut Exchange, command: Command) -> Result<(), Refusal> {
+    let answer = exchange.execute(command)?;
+    println!("sent: code 0, traded {}, rested {}", answer.traded, answer.lots);
+    Ok(())
 }
 
-/// A state with its areas.
-struct Exchange {
-    state: State,
-    buys: Vec<u32>,
-    sells: Vec<u32>,
-    trades: Vec<u32>,
-}
-
-impl Exchange {
-    fn send(&mut self, command: Record) {
-        let r = zelvorm::execute(self.state, &mut self.buys, &mut self.sells, &mut self.trades, command);
-        println!("sent: code {}, traded {}, rested {}", r.answer.code, r.answer.traded, r.answer.lots);
-        self.state = r.state;
-    }
-
-    fn ask(&self, command: Record) {
-        let r = zelvorm::gettable(self.state, &self.buys, &self.sells, &self.trades, command);
-        print!("{} lots at {}: code {}, ", command.lots, command.price, r.code);
-        println!("would trade {}, orders read {}", r.lots, r.read);
-    }
-}
-
-fn main() {
-    let file = std::fs::read(std::env::args().nth(1).expect("name a day file")).expect("no such file");
-    let mut exchange = Exchange {
-        state: zelvorm::open(&file).state,
-        buys: vec![0; zelvorm::QUEUES_WORDS],
-        sells: vec![0; zelvorm::QUEUES_WORDS],
-        trades: vec![0; zelvorm::TRADES_WORDS],
+fn ask(exchange: &Exchange, order: NewOrder) {
+    let Price::Limit(price) = order.price else { return };
+    let (code, lots, read) = match exchange.gettable(Command::Insert(order)) {
+        Ok(asked) => (0, asked.lots, asked.orders_read),
+        Err(refusal) => (refusal.code(), 0, 0),
     };
-    exchange.send(Record { kind: KIND_PHASE, contract: 1, flags: CONTINUOUS as u8, ..NOTHING });
-    exchange.send(order(1, FLAG_SELL, 2, 102));
-    exchange.send(order(1, FLAG_SELL, 4, 103));
-    exchange.send(order(1, FLAG_SELL, 5, 105));
-    exchange.ask(order(2, BUY, 1, 102));
-    exchange.ask(order(2, BUY, 9, 104));
-    exchange.ask(order(2, BUY, 9, 111));
-    exchange.send(order(2, BUY, 9, 104));
+    println!("{} lots at {price}: code {code}, would trade {lots}, orders read {read}", order.lots);
+}
+
+fn main() -> Result<(), Refusal> {
+    let file = std::fs::read(std::env::args().nth(1).expect("name a day file")).expect("no such file");
+    let mut exchange = Exchange::open(&file)?.exchange;
+    let buy = |lots, price| NewOrder::limit(2, 1, Side::Buy, lots, price);
+    send(&mut exchange, Command::Phase { contract: 1, phase: Phase::Continuous })?;
+    for (lots, price) in [(2, 102), (4, 103), (5, 105)] {
+        send(&mut exchange, Command::Insert(NewOrder::limit(1, 1, Side::Sell, lots, price)))?;
+    }
+    ask(&exchange, buy(1, 102));
+    ask(&exchange, buy(9, 104));
+    ask(&exchange, buy(9, 111));
+    send(&mut exchange, Command::Insert(buy(9, 104)))
 }

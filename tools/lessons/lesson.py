@@ -1,7 +1,8 @@
 """A lesson read and played: its records with their writer's comments, and its run command by command, each with the
-lines that the day runner prints and the state before and after it by the independent model.
+lines that the engine prints and the state before and after it by the independent model.
 
-The lines are the runner's. Every one of them is compared with the model's, and the run stops at the first difference.
+The lines are the day runner's; of a lesson that begins from a saved state they are the built library's. Every one of them
+is compared with the model's, and the run stops at the first difference.
 """
 
 import shlex
@@ -12,11 +13,21 @@ from typing import NamedTuple
 import compare
 import dayfile
 import daytext
+import engine
 import filekinds
 import model
+import saved
+import statetext
 import textfiles
 
 RUNNER = daytext.DAY_RUNNER
+# Files that are read, but are no lessons.
+NO_LESSONS = {
+    "empty": "the file is empty",
+    "state": "a saved state, without commands: ./zelvorm state shows it",
+    "state-text": "the text of a saved state, without commands: write some behind it",
+    "statement": "a client statement: ./zelvorm unpack shows it",
+}
 # How much of what is wrong in a text is told; `daytext.py check` tells all.
 MOST_FAULTS = 10
 
@@ -52,6 +63,8 @@ class Lesson(NamedTuple):
     faults: list  # what is wrong with a broken file
     notes: tuple  # the comments that the lesson opens with, by paragraphs
     comments: dict  # "contract", "account" or "command": a Comment for each record
+    opening: object = None  # the state that it begins with; None if the file is broken
+    is_continued: bool = False  # whether it begins from a saved state, which is then its file
 
 
 def read(path):
@@ -61,9 +74,14 @@ def read(path):
         given = textfiles.read(path)
     except OSError as error:
         raise Unusable(f"{path}: {error.strerror}") from None
+    what, words = filekinds.kind(given, daytext.LINES)
+    if what in NO_LESSONS:
+        raise Unusable(f"{path}: {NO_LESSONS[what]} ({words})")
     if is_text(path, given):
         text = textfiles.decoded(given)
-        return lesson_of(path, packed(path, text), text)
+        if what == "continued":
+            return continued_lesson(path, text)
+        return lesson_of(path, read_or_raise(path, daytext.pack, text), text)
     beside = daytext.text_beside(Path(path), given) if path != "-" else None
     return lesson_of(path, given, textfiles.decoded(beside or b""))
 
@@ -74,9 +92,10 @@ def is_text(path, given):
     return suffix == ".txt" or suffix != ".day" and filekinds.is_text(given)
 
 
-def packed(path, text):
+def read_or_raise(path, reads, text):
+    """What is read from a text. Raises Unusable with what is wrong in it."""
     try:
-        return daytext.pack(text)
+        return reads(text)
     except daytext.BadText as bad:
         faults = [f"{path}: {fault}" for fault in bad.faults[:MOST_FAULTS]]
         if len(bad.faults) > MOST_FAULTS:
@@ -91,12 +110,29 @@ def lesson_of(path, file, text=""):
     if faults:
         return Lesson(name, file, None, faults, notes, comments)
     day = dayfile.read(file)
+    fit_comments(name, comments, day)
+    return Lesson(name, file, day, [], notes, comments, model.opening_state(day))
+
+
+def continued_lesson(path, text):
+    """A lesson that begins from a saved state: its records are those of the state, and the commands behind it."""
+    name = "standard input" if path == "-" else Path(path).name
+    found = read_or_raise(path, statetext.read_continued, text)
+    why = statetext.refusal(found.state)
+    if why:
+        raise Unusable(f"{path}: {why}")
+    notes, comments = comments_of(text)
+    day = dayfile.DayFile(list(found.state.contracts.values()), list(found.state.balances.values()), found.commands)
+    fit_comments(name, comments, day)
+    return Lesson(name, saved.state_bytes(found.state), day, [], notes, comments, found.state, is_continued=True)
+
+
+def fit_comments(name, comments, day):
     for kind, records in zip(("contract", "account", "command"), day):
         # A day file without its text has no comments at all.
         comments[kind] = comments[kind] or [Comment()] * len(records)
         if len(comments[kind]) != len(records):
             raise Unusable(f"{name}: {len(records)} {kind} records, but comments for {len(comments[kind])}")
-    return Lesson(name, file, day, [], notes, comments)
 
 
 class CommentLines:
@@ -139,6 +175,8 @@ def comments_of(text):
         elif first == "end":
             comments["command"] += commands * times
             commands = comments["command"]
+        elif first in filekinds.STATE_LINES:
+            notes += (*above.take(), *filter(None, [comment.strip()]))
         elif first:
             kind = "account" if first in daytext.ACCOUNTS else first
             kept = comments[kind] if kind in ("contract", "account") else commands
@@ -195,25 +233,52 @@ def printed_by(runner, lesson):
     return compare.run_runner(runner, lesson.file).decode(errors="backslashreplace")
 
 
+def printed_for(lesson, command_line=None):
+    """The engine's lines for the lesson: the day runner's, or the library's where it begins from a saved state."""
+    if not lesson.is_continued:
+        return printed_by(find_runner(command_line), lesson)
+    try:
+        exchange = engine.Engine(engine.library())
+        exchange.read(lesson.file)
+    except engine.NotBuilt as not_built:
+        raise Unusable(f"{lesson.name} begins from a saved state, which the library plays; {not_built}") from None
+    except engine.Refused as refused:
+        raise Differs(f"the library does not read the state that {lesson.name} begins from: {refused}") from None
+    return exchange.play(lesson.day.commands)
+
+
+class Player:
+    """The model's run from a state, step by step, each held against the engine's lines."""
+
+    def __init__(self, opening):
+        self.state = model.copied(opening)
+        self.after = model.copied(opening)
+        self.books = model.Condition3(opening)
+        self.money = Money(sum(opening.balances.values()))
+        self.number = 0
+
+    def step(self, command, lines, comment=Comment()):
+        """The next command. Raises Differs where the engine's lines for it are not the model's."""
+        self.number += 1
+        before, day = self.after, self.state.settlements + 1
+        answer = model.answer(self.state, command)
+        check_lines(self.number, lines, model_lines(self.state, self.number, answer))
+        self.books.enter(self.state, command, answer)
+        self.money = paid(self.money, command, answer)
+        check_money(self.number, self.books, self.state, answer, self.money)
+        self.after = model.copied(self.state)
+        return Step(self.number, day, command, comment, lines, before, answer, self.after, self.money)
+
+
 def play(lesson, printed):
     """Each step in turn. Raises Differs at the first command whose lines in `printed` are not the model's."""
     groups = lines_by_command(printed)
     if groups[0]:
         raise Differs(f"the runner's output begins with {groups[0][0]}, and the file is sound")
-    state = model.opening_state(lesson.day)
-    books = model.Condition3(state)
-    money = Money(sum(state.balances.values()))
-    after = model.copied(state)
+    player = Player(lesson.opening)
     for number, command in enumerate(lesson.day.commands, 1):
-        before, day = after, state.settlements + 1
-        answer = model.answer(state, command)
         lines = groups[number] if number < len(groups) else []
-        check_lines(number, lines, model_lines(state, number, answer))
-        books.enter(state, command, answer)
-        money = paid(money, command, answer)
-        check_money(number, books, state, answer, money)
-        after = model.copied(state)
-        yield Step(number, day, command, lesson.comments["command"][number - 1], lines, before, answer, after, money)
+        yield player.step(command, lines, lesson.comments["command"][number - 1])
     if len(groups) > len(lesson.day.commands) + 1:
         extra = groups[len(lesson.day.commands) + 1][0]
         raise Differs(f"the runner prints a line after the last command's: {extra}")

@@ -51,7 +51,7 @@ let question = [];
 const questions = steps.map(({ above }) => (question = above.length ? (asks(above) ? above : []) : question));
 
 const stateBefore = (at) => states[Math.max(at - 1, 0)];
-const dayOf = (at) => (at === 0 ? 1 : steps[at - 1].day);
+const dayOf = (at) => steps[Math.max(at - 1, 0)]?.day ?? 1;
 const isSettlement = (at) => at > 0 && steps[at - 1].settled !== undefined;
 
 // --- Elements ---
@@ -456,7 +456,8 @@ function balancePicture(at, account, settled, furthest) {
   const y = (value) => top + (1 - value / furthest) / 2 * (height - top - bottom);
   const opening = y(0);
   const points = [0, ...settled.filter((step) => step <= at)].map((step, day) => {
-    return { day, balance: states[step].accounts[account].balance, cx: x(day), cy: y(gain(step, account)) };
+    const name = day ? `day ${dayOf(step)}` : "opening";
+    return { name, balance: states[step].accounts[account].balance, cx: x(day), cy: y(gain(step, account)) };
   });
   const path = points.map(({ cx, cy }) => `${cx},${cy}`).join(" ");
   const lastDay = { x: width - right, y: height - 3, "text-anchor": "end" };
@@ -466,14 +467,14 @@ function balancePicture(at, account, settled, furthest) {
     drawn("text", { class: "figure", x: width, y: 11, "text-anchor": "end" }, states[at].accounts[account].balance),
     drawn("line", { class: "reference", x1: left, x2: width - right, y1: opening, y2: opening }),
     drawn("text", { x: left, y: height - 3 }, "opening"),
-    ...(settled.length ? [drawn("text", lastDay, `day ${settled.length}`)] : []),
+    ...(settled.length ? [drawn("text", lastDay, `day ${dayOf(settled[settled.length - 1])}`)] : []),
     drawn("polyline", { points: path, fill: "none", stroke: colour(account), "stroke-width": 2 }),
     ...points.map((point) => balancePoint(point, account, settled.length)));
 }
 
-function balancePoint({ day, balance, cx, cy }, account, count) {
+function balancePoint({ name, balance, cx, cy }, account, count) {
   const r = count > MANY_DAYS ? 0 : 3.5;
-  const title = drawn("title", {}, `${day ? `day ${day}` : "opening"}: ${balance}`);
+  const title = drawn("title", {}, `${name}: ${balance}`);
   return drawn("circle", { cx, cy, r, fill: colour(account), "data-balance": balance }, title);
 }
 

@@ -129,6 +129,17 @@ COMMAND_WORDS = {
 # --- What the lesson opens with ---
 
 
+def holdings_words(state, account):
+    """3 long, or with several contracts a line for each: 1: 3 long, 2 short"""
+    words = []
+    for contract in state.contracts:
+        held = [(state.holdings[account, contract, side], side) for side in ("long", "short")]
+        sides = ", ".join(f"{lots:,} {side}" for lots, side in held if lots)
+        if sides:
+            words.append(f"{contract}: {sides}" if len(state.contracts) > 1 else sides)
+    return "\n".join(words) or "none"
+
+
 def contract_terms(number, contract):
     """A contract's terms and what follows from them today."""
     return [

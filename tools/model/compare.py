@@ -2,7 +2,8 @@
 """Runs a day runner on generated files and compares its output with the model's, byte for byte.
 
 Stops at the first difference: names it, keeps the file and the model's output, and ends with status 1. Either way it
-prints what the files have reached: codes and branches, with those that were not reached.
+prints which codes the files have reached, and how many of the branches of the rules; with --branches it lists these, and
+those that were not reached. Every few seconds it tells on standard error how far it is.
 """
 
 import argparse
@@ -10,6 +11,7 @@ import shlex
 import shutil
 import subprocess
 import sys
+import time
 from collections import Counter
 from itertools import zip_longest
 from pathlib import Path
@@ -19,6 +21,9 @@ import generate
 import model
 
 SECONDS_A_FILE = 60
+
+# How often it is told how far the comparison is.
+SECONDS_QUIET = 5
 
 
 class Reached:
@@ -44,21 +49,33 @@ class Reached:
                 self.codes[int(words[1])] += 1
         return output
 
-    def report(self):
-        codes = [f"  {code:>2} {self.codes[code]:>9,}" for code in (*range(22), 23, 24)]
+    def report(self, with_branches=False):
         reached = [f"  {self.branches[name]:>9,} {name}" for name in branches.NAMES if self.branches[name]]
         missed = [f"  {name}" for name in branches.NAMES if not self.branches[name]]
-        return "\n".join(
-            [
-                f"files {self.files:,}, commands {self.commands:,}",
-                "codes (10 and 21 are out of a file's reach):",
-                *codes,
-                f"branches reached: {len(reached)} of {len(branches.NAMES)}",
-                *reached,
-                f"branches not reached: {len(missed)}",
-                *missed,
-            ]
-        )
+        told = [
+            f"files {self.files:,}, commands {self.commands:,}",
+            "codes (10 and 21 are out of a file's reach):",
+            *(f"  {code:>2} {self.codes[code]:>9,}" for code in (*range(22), 23, 24)),
+            f"branches reached: {len(reached)} of {len(branches.NAMES)}",
+        ]
+        if with_branches:
+            told += [*reached, f"branches not reached: {len(missed)}", *missed]
+        return "\n".join(told)
+
+
+class Progress:
+    """Tells now and then how far the comparison is."""
+
+    def __init__(self, files, tell):
+        self.files, self.tell = files, tell
+        self.began = self.told = time.monotonic()
+
+    def reached(self, done):
+        now = time.monotonic()
+        if now - self.told >= SECONDS_QUIET:
+            self.told = now
+            left = (now - self.began) / done * (self.files - done)
+            self.tell(f"{done:,} of {self.files:,} files, no difference so far; roughly {left:,.0f} s left")
 
 
 def run_runner(runner, file):
@@ -85,9 +102,10 @@ def shown(line):
     return "(no line)" if line is None else repr(line.decode(errors="backslashreplace"))
 
 
-def compare(runner, files, seed, folder):
+def compare(runner, files, seed, folder, tell=lambda words: None):
     """Compares up to the first difference. Gives what was reached and the difference as text, or None."""
     reached = Reached()
+    progress = Progress(files, tell)
     for index in range(files):
         file = generate.day_file(seed, index)
         expected = reached.run_model(file)
@@ -103,7 +121,12 @@ def compare(runner, files, seed, folder):
                 f"  runner: {found_line}\n"
                 f"  kept: {kept} and the model's output beside it"
             )
+        progress.reached(index + 1)
     return reached, None
+
+
+def tell(words):
+    print(words, file=sys.stderr, flush=True)
 
 
 def main():
@@ -111,12 +134,13 @@ def main():
     parser.add_argument("runner", metavar="RUNNER", help="the day runner's command line, in one argument")
     parser.add_argument("--files", type=int, default=1_000, metavar="N", help="how many files (1000)")
     parser.add_argument("--seed", type=int, default=1, metavar="S", help="which files (1)")
+    parser.add_argument("--branches", action="store_true", help="list the branches that were reached, and the others")
     arguments = parser.parse_args()
     runner = shlex.split(arguments.runner)
     if not shutil.which(runner[0]):
         parser.error(f"no program {runner[0]}")
-    reached, difference = compare(runner, arguments.files, arguments.seed, Path("."))
-    print(reached.report())
+    reached, difference = compare(runner, arguments.files, arguments.seed, Path("."), tell)
+    print(reached.report(arguments.branches))
     if difference:
         print(difference)
         sys.exit(1)

@@ -330,22 +330,22 @@ NAMES = {
 }
 
 
-def compare(path, cases, started):
+def compare(path, cases, started, opened_by=Library, comparison=Comparison):
     """Compares up to the first difference, which it gives as text, or None, beside what was reached."""
-    linked = Library(path)
+    linked = opened_by(path)
     reached = Reached()
     for number, case in enumerate(cases):
         started(number)
         rng = random.Random(f"areas/{case.name}")
         try:
-            reached.add(case.call, Comparison(linked, case, rng).run())
+            reached.add(case.call, comparison(linked, case, rng).run())
         except Differs as differs:
             return reached, f"difference: {case.call}, {case.name}: {differs}"
     return reached, None
 
 
 # In a process of its own, so that a read or a write beyond an area is told with its case.
-def compare_apart(path, cases):
+def compare_apart(path, cases, *how):
     progress = mmap(-1, 8)
 
     def started(number):
@@ -355,7 +355,7 @@ def compare_apart(path, cases):
     if child == 0:
         status = 2
         try:
-            reached, difference = compare(path, cases(), started)
+            reached, difference = compare(path, cases(), started, *how)
             print(reached.report())
             print(difference or "no difference")
             sys.stdout.flush()

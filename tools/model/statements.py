@@ -163,3 +163,13 @@ def profit(state, client, starts, legs):
         own = [(leg.trade, leg.leg) for leg in legs if leg.client == client and leg.trade.contract == number]
         parts.append(model.profit_by_lots(contract, start, own, model.settlement_price(state, number)))
     return sum(closing for closing, _ in parts), sum(holding for _, holding in parts)
+
+
+# The records of a statement whose sections are whole: trades, holdings, profits. Raises Broken for any other bytes.
+def sections(file):
+    trades, rest = dayfile.section(file, "trades", TRADE)
+    held, rest = dayfile.section(rest, "holdings", HOLDING)
+    profits, rest = dayfile.section(rest, "profits", PROFIT)
+    if rest:
+        raise dayfile.Broken("bytes after the profits", figures=f"{len(rest):,} of them")
+    return trades, held, profits

@@ -827,7 +827,13 @@ class Comparison(unittest.TestCase):
 
     def test_no_difference(self):
         with tempfile.TemporaryDirectory() as folder:
-            reached, difference = compare.compare(self.RIGHT, 12, 3, Path(folder))
+            told = []
+            with mock.patch.object(compare, "SECONDS_QUIET", 0):
+                reached, difference = compare.compare(self.RIGHT, 12, 3, Path(folder), told.append)
+            self.assertEqual(len(told), 12)
+            self.assertRegex(told[3], "^4 of 12 files, no difference so far; roughly [0-9]+ s left$")
+            self.assertNotIn("branches not reached", reached.report())
+            self.assertIn("branches not reached", reached.report(with_branches=True))
             self.assertIsNone(difference)
             self.assertEqual(reached.files, 12)
             self.assertEqual(list(Path(folder).iterdir()), [])

@@ -223,6 +223,12 @@ module _ (accounts contracts : ℕ) where
       ∙ +ℤ-assoc (sumTo accounts (s .balance)) (sumTo accounts (λ a. paidBy a m)) (sumTo accounts (λ a. paid a ms))
       ∙ ap (λ (z : ℤ). sumTo accounts (s .balance) +ℤ z) (sym (sumTo-add accounts (λ a. paidBy a m) (λ a. paid a ms)))
 
+  -- in each contract as many lots stay long as short
+  pub reached-level : {s s′ : Books} {ms : List Move} → Reached accounts contracts s ms s′ → Level accounts contracts s → Level accounts contracts s′
+  reached-level stay h = h
+  reached-level (move {s = s} {s₁ = s₁} {m = m} known e r) h =
+      reached-level r (same-level accounts contracts (after contracts s m) s₁ e (level-after accounts contracts s known h m))
+
   pub reached-multiplier : {s s′ : Books} {ms : List Move} → Reached accounts contracts s ms s′ → (c : ℕ) → c < contracts → s′ .multiplier c ≡ s .multiplier c
   reached-multiplier (stay {s = s}) c k = refl
   reached-multiplier (move {s = s} {s₁ = s₁} {m = m} {ms = ms} known e r) c k =

@@ -27,7 +27,7 @@ use Rattle.accounting.proofs.Trades.{sumTo-sub, netHolding-nil}
 
 -- ---- integers
 
-itself : (x : ℤ) → x -ℤ x ≡ pos 0
+pub itself : (x : ℤ) → x -ℤ x ≡ pos 0
 itself x = rw (split x) (simp ring (d-eq _ _ _ _ (omega arith)))
 
 -- what stands beside a sum is its whole less the other part

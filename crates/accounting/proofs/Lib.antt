@@ -22,3 +22,4 @@ pub mod Declared
 pub mod Runs
 pub mod Condition3
 pub mod Joined
+pub mod Totals

@@ -2,3 +2,4 @@
 pub mod Answered
 pub mod Bundle
 pub mod Calls
+pub mod BundleExamples

@@ -11,6 +11,7 @@ ghost use Rattle.rules.specs.Memory.{queueIn, firstWord};
 use crate::queue;
 use rules::Order;
 use rules::Taker;
+use rules::sizes::ACCOUNT_WORD;
 
 // The lots of the counterparts: reading stops at the first order that is none.
 pub fn fillable(area: &[u32], c: usize, count: usize, t: Taker) -> u64
@@ -75,9 +76,13 @@ pub fn resting(area: &[u32], c: usize, count: usize, account: u32, close: u32) -
     let mut lots: u64 = 0;
     let mut i: usize = 0;
     while i < count {
-        let o = queue::order_at(area, c, i);
-        lots += lots_of(o, account, close);
+        let at = i;
         i += 1;
+        // most orders are another account's: that word alone is read of them
+        if queue::word_at(area, c, at, ACCOUNT_WORD) == account {
+            let o = queue::order_at(area, c, at);
+            lots += lots_of(o, account, close);
+        }
     }
     lots
 }

@@ -13,7 +13,7 @@ use lib.ListN.{length, getD, set, length-set}
 use lib.Seq.{getD-set-same}
 use Rattle.laws.specs.Choice.{pick, allOf, allOf-append, both-true, true-both, either-false}
 use Rattle.laws.specs.Sums.{sumOf, sumOf-append, sumOf-at, sumOf-set}
-use Rattle.rules.specs.Answers.{Refusal, firstOf, listingOf, namedRefusals, noSuchOrder, notContinuous, numbered, ownerRefusals, restingOrder, tradesRefused}
+use Rattle.rules.specs.Answers.{firstOf, listingOf, namedRefusals, noSuchOrder, notContinuous, numbered, ofAnother, ownerRefusals, Refusal, restingOrder, tradesRefused}
 use Rattle.rules.specs.Bounds.{allowedToday, maxLots, maxResting, numbersEnd}
 use Rattle.rules.specs.Change.{Asked, arriving, changeRefusals, changed, gone, isSell, lessened, listingLessened, losesPlace, newFieldsRefusals, oldOrder, placeKept, placeLost, reentered, reentryRefusals, unchanged, unmarked}
 use Rattle.rules.specs.Exchange.{Exchange, Listing, listingAt, listingNamed, noListing, noOrder, own, placeOf, lotsWhere, resting}
@@ -148,17 +148,21 @@ module _ (x : Exchange) (w : WellFormed x) (k : Asked) (e : firstOf (changeRefus
   unfolding changeRefusals before-loss
   passed = both-zero before-loss (pick (losesPlace x k) (reentryRefusals (gone x k) number (arriving x k)) []) (omega arith) e
 
-  account-there : placeOf (k .account) < length (x .accounts)
+  pub account-there : placeOf (k .account) < length (x .accounts)
   unfolding before-loss
   account-there = present (k .account) (x .accounts) (passed .0 .0)
 
-  there : place < length (x .listings)
+  pub there : place < length (x .listings)
   unfolding before-loss
   there = present (k .contract) (x .listings) (passed .0 .1 .0)
 
-  rests : noSuchOrder (numbered number (listing .buys ++ listing .sells)) ≡ false
+  pub rests : noSuchOrder (numbered number (listing .buys ++ listing .sells)) ≡ false
   unfolding before-loss restingOrder
   rests = passed .0 .1 .1 .1 .0
+
+  pub owned : ofAnother (placeOf (k .account)) (restingOrder listing number) ≡ false
+  unfolding before-loss
+  owned = passed .0 .1 .1 .1 .1 .0
 
   lots-high : k .lots ≤ maxLots
   unfolding before-loss
@@ -189,6 +193,12 @@ module _ (x : Exchange) (w : WellFormed x) (k : Asked) (e : firstOf (changeRefus
       let r = order-ok (length (x .accounts)) (x .next) (x .nextstamp) (listing .contract) _ (f .0) in
       (omega (arith, f .1, r .number-low), omega (arith, f .1, r .number-high))
 
+  -- its mark is one of an open or a close
+  pub its-close : oldOrder x k .close ≤ 1
+  unfolding oldOrder restingOrder
+  its-close =
+      order-ok (length (x .accounts)) (x .next) (x .nextstamp) (listing .contract) _ (found number inRange (listing .buys ++ listing .sells) all-in-range rests .0) .close
+
   -- it rests on its side
   mine-used : 1 ≤ uses numberOf number (own (isSell x k) listing)
   unfolding isSell
@@ -212,7 +222,7 @@ module _ (x : Exchange) (w : WellFormed x) (k : Asked) (e : firstOf (changeRefus
   abbrev left : Listing
   left = listingWithout (hasNumber number) listing
 
-  gone-keeps : WellFormed (gone x k)
+  pub gone-keeps : WellFormed (gone x k)
   unfolding gone removed
   gone-keeps = removed-keeps (hasNumber number) x place there number w
 
@@ -242,18 +252,18 @@ module _ (x : Exchange) (w : WellFormed x) (k : Asked) (e : firstOf (changeRefus
         own-used (isSell x k),
       )
 
-  given : Given (gone x k) number (x .next)
+  pub given : Given (gone x k) number (x .next)
   unfolding gone
   given = record { low = its-number .0; below = its-number .1; later = le-refl (x .next); high = w .next-high; unused = number-unused }
 
   -- ---- the place lost
 
   module _ (lost : losesPlace x k ≡ true) where
-    some : eqb (k .lots) 0 ≡ false
+    pub some : eqb (k .lots) 0 ≡ false
     unfolding losesPlace
     some = not-true (eqb (k .lots) 0) (both-true (not (eqb (k .lots) 0)) _ lost .0)
 
-    reentry-passed : Failed (reentryRefusals (gone x k) number (arriving x k))
+    pub reentry-passed : Failed (reentryRefusals (gone x k) number (arriving x k))
     reentry-passed = failed (reentryRefusals (gone x k) number (arriving x k)) (omega arith) (rw lost at (passed .1))
 
     stamps-left : x .nextstamp < numbersEnd
@@ -273,7 +283,7 @@ module _ (x : Exchange) (w : WellFormed x) (k : Asked) (e : firstOf (changeRefus
     its-price : allowedToday (listingOf (gone x k) (arriving x k) .contract) (k .price) ≡ true
     its-price = rw gone-listing (price-allowed some)
 
-    passes : Counted x → Passes (gone x k) number (arriving x k)
+    pub passes : Counted x → Passes (gone x k) number (arriving x k)
     unfolding gone arriving tradesRefused
     passes n =
         record {
@@ -287,11 +297,12 @@ module _ (x : Exchange) (w : WellFormed x) (k : Asked) (e : firstOf (changeRefus
           opens = open-lots (gone x k) (arriving x k) (reentry-passed .0);
           closes = close-lots (gone x k) (arriving x k) (reentry-passed .0);
           stamp = stamps-left;
+          kill = λ h. absurd (false≢true h);
           trades = ltb-false _ _ (reentry-passed .1 .1 .1 .0);
           room = λ g full. absurd (omega (arith, has-room n, full));
         }
 
-    no-mark-left : Counted x → Marks (gone x k) 0 (arriving x k)
+    pub no-mark-left : Counted x → Marks (gone x k) 0 (arriving x k)
     no-mark-left n = no-mark (gone x k) gone-keeps (arriving x k) (passes n .account) (passes n .contract)
 
     lost-keeps : Counted x → WellFormed (exchangeAfter (gone x k) (arriving x k) (reentered x k) (x .next))
@@ -370,7 +381,7 @@ module _ (x : Exchange) (w : WellFormed x) (k : Asked) (e : firstOf (changeRefus
               (own b listing) (fit b) (ok .orders b));
         }
 
-    less-resting : (close a : ℕ) (b : Bool) → resting close a (own b less) ≤ resting close a (own b listing)
+    pub less-resting : (close a : ℕ) (b : Bool) → resting close a (own b less) ≤ resting close a (own b listing)
     unfolding resting lotsWhere
     less-resting close a b =
         rw (own-less b)

@@ -1,34 +1,48 @@
 -- WHAT EACH KIND OWES, one clause a kind, and what then holds of every command: it KEEPS A WELL-FORMED STATE WELL FORMED, and its counts in
--- range; ORDER NUMBERS STAY, AND TIME STAMPS ARE NEVER GIVEN TWICE IN A DAY (document 02, ticket 8); NO COMMAND CHANGES A MAKER MARK
--- (ticket 7). The laws that the clauses cite name no kind. Assumes nothing.
-use mathlib.Core.Bool.{Bool, true, false, true≢false}
+-- range; ORDER NUMBERS STAY, AND TIME STAMPS ARE NEVER GIVEN TWICE IN A DAY (document 02, ticket 8); what becomes of the orders of an
+-- account that it does not name; NO COMMAND CHANGES A MAKER MARK (ticket 7); WHAT IS CHARGED and WHICH BALANCES ARE READ (specs/Accounts). The
+-- laws that the clauses cite name no kind. Assumes nothing.
+use mathlib.Core.Bool.{Bool, true, false, true≢false, false≢true}
 use mathlib.Core.List.{List, [], _∷_}
-use mathlib.Core.Path.{_≡_, refl, ap}
+use mathlib.Core.Path.{_≡_, refl, sym, ap, _∙_}
 use Prim.Native.Nat.{ℕ, _+_, _<_, _≤_}
 use native.Mathlib.Nat.{le-refl}
+use native.Mathlib.Omega.{arith}
+use borrow.Author.Tests.{eqb-false, ne-eqb, not-true}
+use lib.Dec.{eqb}
 use lib.ListN.{length}
+use Rattle.laws.specs.Choice.{both-true}
 use Rattle.rules.specs.Auction.{matchOf}
 use Rattle.rules.specs.Change.{asked}
-use Rattle.rules.specs.Command.{isChange, isSettle}
-use Rattle.rules.specs.Exchange.{Exchange, accountAt, listingAt, placeOf}
-use Rattle.rules.specs.Kinds.{kindOf, codeOf, lastOf, step}
+use Rattle.rules.specs.Command.{Field, unused, holds, accountField, isChange, isSettle}
+use Rattle.rules.specs.Exchange.{Exchange, accountAt, listingAt, listingNamed, placeOf}
+use Rattle.rules.specs.Kinds.{kindOf, codeOf, decide, lastOf, step}
 use Rattle.rules.specs.Quote.{offered, quoted, withBuy, withSell, withoutQuote}
 use Rattle.rules.specs.Settlement.{settled}
-use Rattle.rules.specs.Step.{deposited, withdrawn, enteredOf, exchangeAfter, exchangeMatched, hasNumber, inserted, isOf, paid, removed, cancelled, pulled, phaseChanged, settledAll}
+use Rattle.rules.specs.Step.{Effect, deposited, withdrawn, enteredOf, exchangeAfter, exchangeMatched, hasNumber, inserted, isOf, paid, removed, cancelled, pulled, phaseChanged, settledAll}
+use Rattle.rules.specs.Touches.{names}
 use Rattle.rules.specs.WellFormed.{wellFormedContents}
 use Rattle.rules.specs.declared.Command.{Command}
 use Rattle.rules.specs.declared.Command.the-variants.{Malformed, Deposit, Withdraw, Insert, Cancel, Pull, Phase, Settle, Quote, Change}
 use Rattle.rules.proofs.EachKind.{settle-is}
 use Rattle.rules.proofs.Holdings.{booked-maker}
 use Rattle.rules.proofs.Stages.{Each, each-last, decided}
+use Rattle.rules.proofs.Touches.{account-at, contract-there, isAt, not-its}
+use Rattle.accounting.specs.Shape.{Shaped}
+use Rattle.invariants.specs.GivenNumbers.{NumbersForLife, numbersGiven, numbersTaken, upFrom}
+use Rattle.invariants.specs.Accounts.{WithinBalance, entersOpen, isFrom}
 use Rattle.invariants.proofs.ChangeKeeps.{change-keeps, change-counted}
 use Rattle.invariants.proofs.Clauses.{WellFormed, Counted, Sound, well-formed, well-formed-test}
+use Rattle.invariants.proofs.ForLife.{Lives, changed-lives, changed-next, match-lives, new-lives, of-lives, quoted-lives, same-lives, without-lives}
 use Rattle.invariants.proofs.Insert.{insert-keeps, insert-counted}
 use Rattle.invariants.proofs.Makers.{Stays, paid-stays, settled-stays, changed-stays, quoted-stays}
+use Rattle.invariants.proofs.MarginWithin.{Keeps, change-opened, change-within, deposit-within, insert-within, phase-within, quote-within, removal-keeps, withdrawal-keeps}
+use Rattle.invariants.proofs.OthersOrders.{Fated, cancel-spares, changed-fated, entered-fated, matched-fated, paid-fated, quoted-fated, removed-fated, same-fated, spared}
 use Rattle.invariants.proofs.Payments.{deposit-keeps, withdraw-keeps, deposit-counted, withdraw-counted}
 use Rattle.invariants.proofs.Phases.{phase-keeps, phase-counted}
 use Rattle.invariants.proofs.QuoteKeeps.{quote-keeps, quote-counted}
-use Rattle.invariants.proofs.Removal.{cancel-keeps, pull-keeps, cancel-counted, pull-counted}
+use Rattle.invariants.proofs.Removal.{cancel-keeps, pull-keeps, cancel-counted, pull-counted, cancel-there, pull-there}
+use Rattle.invariants.proofs.SeenBalances.{SameSeen, change-refusals, change-same, quote-answer, quote-left, quote-refusals, same-cancel, same-deposit, same-insert, same-phase, same-pull, same-settle, same-withdraw, state-twice}
 use Rattle.invariants.proofs.Settle.{settle-keeps, settle-counted}
 use Rattle.invariants.proofs.Stamps.{_stamped_, Alike, Stamped, Follow, Onward, StampsAsNumbers, change-onward, entered-stamped, insert-onward, match-follow, quote-onward, same-follow, settled-stamped, without-follow}
 
@@ -153,6 +167,85 @@ pub stamps-as-numbers : (x : Exchange) (command : Command) → isChange command 
 unfolding step
 stamps-as-numbers x command n h = decided (λ d. StampsAsNumbers (lastOf x (d .stages))) x command (λ e. kind-stamped x command n h) (λ e. h)
 
+-- ---- numbers and time stamps for life, and given once
+
+module _ (x : Exchange) (w : WellFormed x) where
+  -- each order that rests after a command rested before, or has a new number
+  kind-lives : (command : Command) → isSettle command ≡ false → codeOf x command ≡ 0 → Lives x (lastOf x (kindOf x command .effect .stages))
+  unfolding codeOf kindOf deposited withdrawn inserted cancelled pulled removed phaseChanged paid listingAt
+  kind-lives Malformed n e = same-lives x
+  kind-lives (Deposit account amount) n e = same-lives x
+  kind-lives (Withdraw account amount) n e = same-lives x
+  kind-lives (Insert o) n e = new-lives x x (same-lives x) (x .next) 0 o (le-refl (x .next)) (le-refl (x .nextstamp)) (x .next + 1)
+  kind-lives (Cancel account contract operator number) n e = without-lives x (placeOf contract) (hasNumber number)
+  kind-lives (Pull account contract operator) n e = without-lives x (placeOf contract) (isOf (placeOf account))
+  kind-lives (Phase contract phase) n e = match-lives x (placeOf contract) phase
+  kind-lives Settle n e = absurd (true≢false n)
+  kind-lives (Quote account contract lots buy sell) n e = quoted-lives x (offered account contract lots buy sell)
+  kind-lives (Change account contract number lots price) n e = changed-lives x w (asked account contract number lots price) e
+
+-- an accepted command's numbers are the next ones, and the next number rises by as many
+abbrev Takes : Exchange → Command → Effect → Type 0
+Takes x command e = (upFrom (e .number) (numbersTaken command) ≡ upFrom (x .next) (numbersTaken command)) × (lastOf x (e .stages) .next ≡ x .next + numbersTaken command)
+
+kind-takes : (x : Exchange) (command : Command) → isSettle command ≡ false → Takes x command (kindOf x command .effect)
+unfolding kindOf deposited withdrawn inserted cancelled pulled removed phaseChanged paid exchangeAfter exchangeMatched quoted withSell withBuy withoutQuote upFrom
+kind-takes x Malformed n = (refl, omega arith)
+kind-takes x (Deposit account amount) n = (refl, omega arith)
+kind-takes x (Withdraw account amount) n = (refl, omega arith)
+kind-takes x (Insert o) n = (refl, refl)
+kind-takes x (Cancel account contract operator number) n = (refl, omega arith)
+kind-takes x (Pull account contract operator) n = (refl, omega arith)
+kind-takes x (Phase contract phase) n = (refl, omega arith)
+kind-takes x Settle n = absurd (true≢false n)
+kind-takes x (Quote account contract lots buy sell) n = (refl, omega arith)
+kind-takes x (Change account contract number lots price) n = (refl, changed-next x (asked account contract number lots price) ∙ (let e : x .next ≡ x .next + 0 = omega arith in e))
+
+pub step-lives : (x : Exchange) → WellFormed x → (command : Command) → isSettle command ≡ false → NumbersForLife x (step x command)
+unfolding step
+step-lives x w command n =
+    of-lives x (step x command)
+    (decided (λ d. x .next ≤ lastOf x (d .stages) .next) x command (λ e. omega (arith, kind-takes x command n .1)) (λ e. le-refl (x .next)))
+    (stamps-rise x command n)
+    (decided (λ d. Lives x (lastOf x (d .stages))) x command (kind-lives x w command n) (λ e. same-lives x))
+
+-- what an answer gives begins with the next number, and the next number after it is beyond
+pub step-given : (x : Exchange) (command : Command) → isSettle command ≡ false → (k : ℕ) × (numbersGiven command (decide x command .answer) ≡ upFrom (x .next) k) × (step x command .next ≡ x .next + k)
+unfolding step
+step-given x command n =
+    decided (λ d. (k : ℕ) × (numbersGiven command (d .answer) ≡ upFrom (x .next) k) × (lastOf x (d .stages) .next ≡ x .next + k)) x command
+    (λ e. let t = kind-takes x command n in (numbersTaken command, t .0, t .1))
+    (λ e. (0, rw (ne-eqb (codeOf x command) 0 e) (unfold upFrom in refl), omega arith))
+
+-- ---- the orders of an account that a command does not name
+
+module _ (x : Exchange) (w : WellFormed x) (a : ℕ) where
+  other-place : (account : ℕ) → eqb a (placeOf account) ≡ false → eqb (placeOf account) a ≡ false
+  other-place account n = ne-eqb (placeOf account) a (λ e. eqb-false a (placeOf account) n (sym e))
+
+  kind-fated : (command : Command) → isSettle command ≡ false → isAt (accountField command) a ≡ false → codeOf x command ≡ 0 →
+      Fated a x (lastOf x (kindOf x command .effect .stages))
+  unfolding codeOf kindOf deposited withdrawn inserted cancelled pulled removed phaseChanged
+  kind-fated Malformed n f e = same-fated a x
+  kind-fated (Deposit account amount) n f e = paid-fated a x _ _
+  kind-fated (Withdraw account amount) n f e = paid-fated a x _ _
+  kind-fated (Insert o) n f e = entered-fated a x w o (x .next) 0 (contract-there x (Insert o) (o .contract) refl e) (other-place (o .account) f) (x .next + 1)
+  kind-fated (Cancel account contract operator number) n f e =
+      removed-fated a x (placeOf contract) (hasNumber number) (contract-there x (Cancel account contract operator number) contract refl e)
+      (cancel-spares a x w account contract operator number e (other-place account f))
+  kind-fated (Pull account contract operator) n f e =
+      removed-fated a x (placeOf contract) (isOf (placeOf account)) (contract-there x (Pull account contract operator) contract refl e)
+      (spared a (isOf (placeOf account)) (not-its x account contract operator a f) (listingNamed x contract))
+  kind-fated (Phase contract phase) n f e = matched-fated a x (placeOf contract) (contract-there x (Phase contract phase) contract refl e) phase
+  kind-fated Settle n f e = absurd (true≢false n)
+  kind-fated (Quote account contract lots buy sell) n f e = quoted-fated a x w (offered account contract lots buy sell) e (other-place account f)
+  kind-fated (Change account contract number lots price) n f e = changed-fated a x w (asked account contract number lots price) e (other-place account f)
+
+  pub step-fated : (command : Command) → isSettle command ≡ false → names (accountField command) a ≡ false → Fated a x (step x command)
+  unfolding step
+  step-fated command n f =
+      decided (λ d. Fated a x (lastOf x (d .stages))) x command (λ e. kind-fated command n (account-at x command a f e) e) (λ e. same-fated a x)
+
 -- ---- maker marks
 
 module _ (x : Exchange) (a : ℕ) (there : a < length (x .accounts)) where
@@ -172,3 +265,65 @@ module _ (x : Exchange) (a : ℕ) (there : a < length (x .accounts)) where
   pub makers-stay : (command : Command) → accountAt (step x command .accounts) a .maker ≡ accountAt (x .accounts) a .maker
   unfolding step
   makers-stay command = decided (λ d. Stays x a (lastOf x (d .stages))) x command (λ e. kind-stays command) (λ e. refl)
+
+-- ---- charged margin
+
+-- what an accepted command leaves
+abbrev pub leftBy : Exchange → Command → Exchange
+leftBy x command = lastOf x (kindOf x command .effect .stages)
+
+module _ (x : Exchange) (k : Sound x) (shaped : Shaped x) where
+  -- AN ACCEPTED OPEN'S ACCOUNT is charged within its balance: the account, by the place that its number has
+  abbrev pub Opened : Command → Field → Type 0
+  Opened command unused = Unit {0}
+  Opened command (holds account) = WithinBalance (leftBy x command) (placeOf account)
+
+  pub kind-opened : (command : Command) → codeOf x command ≡ 0 → entersOpen x command ≡ true → Opened command (accountField command)
+  unfolding codeOf kindOf
+  kind-opened Malformed e o = absurd (false≢true o)
+  kind-opened (Deposit account amount) e o = absurd (false≢true o)
+  kind-opened (Withdraw account amount) e o = absurd (false≢true o)
+  kind-opened (Insert order) e o = insert-within x (k .contents) shaped order e .0 (not-true (order .close) o)
+  kind-opened (Cancel account contract operator number) e o = absurd (false≢true o)
+  kind-opened (Pull account contract operator) e o = absurd (false≢true o)
+  kind-opened (Phase contract phase) e o = absurd (false≢true o)
+  kind-opened Settle e o = absurd (false≢true o)
+  kind-opened (Quote account contract lots buy sell) e o = quote-within x (k .contents) shaped (offered account contract lots buy sell) e .0
+  kind-opened (Change account contract number lots price) e o =
+      let q = both-true _ _ o in
+      change-opened x (k .contents) shaped (asked account contract number lots price) e (k .counts) (q .0) (q .1)
+
+  pub kind-within : (command : Command) → codeOf x command ≡ 0 → isSettle command ≡ false → (a : ℕ) → a < length (x .accounts) → Keeps x (leftBy x command) a
+  unfolding codeOf kindOf cancelled pulled
+  kind-within Malformed e n a l = λ w. w
+  kind-within (Deposit account amount) e n a l = deposit-within x account amount e a
+  kind-within (Withdraw account amount) e n a l = withdrawal-keeps x account amount e a
+  kind-within (Insert order) e n a l = insert-within x (k .contents) shaped order e .1 a l
+  kind-within (Cancel account contract operator number) e n a l =
+      removal-keeps x (placeOf contract) (cancel-there x account contract operator number e) a (hasNumber number) number
+  kind-within (Pull account contract operator) e n a l =
+      removal-keeps x (placeOf contract) (pull-there x account contract operator e) a (isOf (placeOf account)) 0
+  kind-within (Phase contract phase) e n a l = phase-within x (k .contents) contract phase e a l
+  kind-within Settle e n a l = absurd (true≢false n)
+  kind-within (Quote account contract lots buy sell) e n a l = quote-within x (k .contents) shaped (offered account contract lots buy sell) e .1 a l
+  kind-within (Change account contract number lots price) e n a l = change-within x (k .contents) shaped (asked account contract number lots price) e (k .counts) a l
+
+-- ---- balances that are not seen
+
+module _ (seen : ℕ → Bool) where
+  pub same-seen : (x : Exchange) (command : Command) → isFrom seen (accountField command) ≡ true → SameSeen seen x command
+  unfolding kindOf
+  same-seen x Malformed e = record { refusals = refl; answer = refl; left = state-twice seen x }
+  same-seen x (Deposit account amount) e = same-deposit seen x account amount e
+  same-seen x (Withdraw account amount) e = same-withdraw seen x account amount e
+  same-seen x (Insert o) e = same-insert seen x o e
+  same-seen x (Cancel account contract operator number) e = same-cancel seen x account contract operator number
+  same-seen x (Pull account contract operator) e = same-pull seen x account contract operator
+  same-seen x (Phase contract phase) e = same-phase seen x contract phase
+  same-seen x Settle e = same-settle seen x
+  same-seen x (Quote account contract lots buy sell) e =
+      let q = offered account contract lots buy sell in
+      record { refusals = quote-refusals seen x q e; answer = quote-answer seen x q e; left = quote-left seen x q e }
+  same-seen x (Change account contract number lots price) e =
+      let k = asked account contract number lots price in
+      record { refusals = change-refusals seen x k e; answer = change-same seen x k e .0; left = change-same seen x k e .1 }

@@ -30,6 +30,7 @@ use Rattle.rules.proofs.Fillable.{swept-fillable}
 use Rattle.rules.proofs.Holdings.{booked-start-holding}
 use Rattle.rules.proofs.Prices.{method-rounds}
 use Rattle.rules.proofs.Rest.{rest-sum, length-rest}
+use Rattle.rules.proofs.Sweep.{ofContract, swept-contract}
 use Rattle.invariants.proofs.Carry.{Allows}
 use Rattle.invariants.proofs.Clauses.{held, HoldingOk, MarksOk, WellFormed, Counted}
 use Rattle.invariants.proofs.InsertAccepted.{Given, Passes, next-given, numbered, passes}
@@ -38,8 +39,8 @@ use Rattle.invariants.proofs.InsertQueues.{rested-sum, rested-length, r
 use Rattle.invariants.proofs.Legs.{resting-cons, KeptAt}
 use Rattle.invariants.proofs.Marks.{Marks, no-mark, rested-marks, swept-marks}
 use Rattle.invariants.proofs.Numbers.{KeptByLots, occurs, uses, usesIn, all-uses, once-count, given-unused}
-use Rattle.invariants.proofs.SweptHoldings.{SweptKept, swept-kept, untouched-kept, fewer-by}
-use Rattle.invariants.proofs.SweptTrades.{ofContract, swept-in-range, swept-contract}
+use Rattle.invariants.proofs.SweptHoldings.{KeptBy, SweptKept, swept-kept, untouched-kept, fewer-by}
+use Rattle.invariants.proofs.SweptTrades.{swept-in-range}
 use Rattle.invariants.proofs.Traded.{TradesOk, traded-listings, traded-accounts, traded-allows, traded-counted, traded-keeps}
 
 -- ---- limits and coverage with the arriving lots in front of the own side's queue
@@ -121,22 +122,22 @@ one-more used value once unused n = by-value (eqb n value) refl
 
 module _ (x : Exchange) (k : WellFormed x) (number quote next : ℕ) (g : Given x number next) (o : NewOrder) (p : Passes x number o)
     (z : Marks x quote o) where
-  abbrev lots-swept : Swept
+  abbrev pub lots-swept : Swept
   lots-swept = swept x k number quote next g o p z
 
-  abbrev arrived : Order
+  abbrev pub arrived : Order
   arrived = remainder (takerOf x number quote o) (limitOf (o .condition)) (o .lots)
 
-  abbrev account : ℕ
+  abbrev pub account : ℕ
   account = placeOf (o .account)
 
-  abbrev place : ℕ
+  abbrev pub place : ℕ
   place = placeOf (o .contract)
 
-  abbrev mine : List Order
+  abbrev pub mine : List Order
   mine = own (o .sell) (listingOf x o)
 
-  abbrev others : List Order
+  abbrev pub others : List Order
   others = opposite (o .sell) (listingOf x o)
 
   holding-before : (a : ℕ) → a < length (x .accounts) → HoldingOk (listingOf x o) a (holdingAt (x .accounts) a place)
@@ -160,44 +161,56 @@ module _ (x : Exchange) (k : WellFormed x) (number quote next : ℕ) (g : Given 
       (holding-before a l .closes (o .sell))
       (λ e q. rw (← eqb-true account a e) (p .closes q)))
 
-  kept-before : (a : ℕ) → a < length (x .accounts) →
-      KeptAt (contractOf x k number quote next g o p z .limit) place (x .accounts) (pick (o .sell) others (arrived ∷ mine)) (pick (o .sell) (arrived ∷ mine) others) a
+  -- each account's lots, the arriving ones included, are within a bound of its own
+  abbrev pub Before : (ℕ → ℕ) → Type 0
+  Before limit = KeptBy (o .sell) (length (x .accounts)) limit place (x .accounts) (arrived ∷ mine) others
+
+  abbrev pub contractLimit : ℕ → ℕ
+  contractLimit a = contractOf x k number quote next g o p z .limit
+
+  pub kept-before : Before contractLimit
   kept-before a l = kept-by (o .sell) (listingOf x o) place (x .accounts) a arrived (holding-before a l) (opens-start a l) (closes-start a l)
 
   -- so the order entered keeps them, and its trades close nothing that is not held
-  swept-holdings : SweptKept (length (x .accounts)) (contractOf x k number quote next g o p z .limit) (limitOf (o .condition)) (takerOf x number quote o) mine (x .accounts) (o .lots) lots-swept
+  swept-holdings : (limit : ℕ → ℕ) → Before limit → SweptKept (length (x .accounts)) limit (limitOf (o .condition)) (takerOf x number quote o) mine (x .accounts) (o .lots) lots-swept
   unfolding takerOf restWhole enter
-  swept-holdings =
+  swept-holdings limit kept =
       entered-either x number quote o
-      (λ e. SweptKept (length (x .accounts)) (contractOf x k number quote next g o p z .limit) (limitOf (o .condition)) (takerOf x number quote o) mine (x .accounts) (o .lots)
+      (λ e. SweptKept (length (x .accounts)) limit (limitOf (o .condition)) (takerOf x number quote o) mine (x .accounts) (o .lots)
       (record { trades = e .trades; rest = e .opposite }))
-      (λ e. untouched-kept (length (x .accounts)) (contractOf x k number quote next g o p z .limit) (limitOf (o .condition)) (takerOf x number quote o) mine (x .accounts) (o .lots) others kept-before)
-      (λ e. swept-kept (length (x .accounts)) (contractOf x k number quote next g o p z .limit) (limitOf (o .condition)) (x .next) (x .nextstamp) (contractOf x k number quote next g o p z) (takerOf x number quote o) mine
+      (λ e. untouched-kept (length (x .accounts)) limit (limitOf (o .condition)) (takerOf x number quote o) mine (x .accounts) (o .lots) others kept)
+      (λ e. swept-kept (length (x .accounts)) limit (limitOf (o .condition)) (x .next) (x .nextstamp) (contractOf x k number quote next g o p z) (takerOf x number quote o) mine
       (p .account) (mark-low (o .close))
-      (o .lots) (contractOf x k number quote next g o p z .last) others (x .accounts) (sides x k number quote next g o p z .others-orders) kept-before)
+      (o .lots) (contractOf x k number quote next g o p z .last) others (x .accounts) (sides x k number quote next g o p z .others-orders) kept)
 
   -- ---- the parts of the state after it
 
-  abbrev after : Listing
+  abbrev pub after : Listing
   after = listingAfter (listingOf x o) (o .sell) (enteredOf x number quote o)
 
-  abbrev accountsAfter : List Account
+  abbrev pub accountsAfter : List Account
   accountsAfter = bookTrades (x .accounts) (lots-swept .trades)
 
+  abbrev pub mineAfter : List Order
+  mineAfter = restLots (takerOf x number quote o) (limitOf (o .condition)) (rested x k number quote next g o p z) mine
+
+  pub kept-after : (limit : ℕ → ℕ) → Before limit → KeptBy (o .sell) (length (x .accounts)) limit place accountsAfter mineAfter (lots-swept .rest)
+  unfolding takerOf
+  kept-after limit kept =
+      fewer-by (o .sell) (length (x .accounts)) limit place accountsAfter
+      (remainder (takerOf x number quote o) (limitOf (o .condition)) (o .lots - tradedLots (lots-swept .trades)) ∷ mine) mineAfter (lots-swept .rest) (lots-swept .rest)
+      (rested-fewer (takerOf x number quote o) (limitOf (o .condition)) (rested x k number quote next g o p z) (o .lots - tradedLots (lots-swept .trades)) mine
+      (rested-left x k number quote next g o p z)) (λ close b. omega arith) (swept-holdings limit kept .kept)
+
   holding-after : (a : ℕ) → a < length (x .accounts) → HoldingOk after a (holdingAt accountsAfter a place)
-  unfolding listingAfter takerOf
+  unfolding listingAfter
   holding-after a l =
       let s = booked-start-holding (x .accounts) (lots-swept .trades) a place in
       let q = holding-before a l in
       rw (own-is x k number quote next g o p z)
-      (holding-by (o .sell) (contractAfter x k number quote next g o p z) (restLots (takerOf x number quote o) (limitOf (o .condition)) (rested x k number quote next g o p z) mine)
-      (lots-swept .rest) place accountsAfter a
+      (holding-by (o .sell) (contractAfter x k number quote next g o p z) mineAfter (lots-swept .rest) place accountsAfter a
       (rw (ap (λ (h : Holding). h .startlong) s) (q .startlong)) (rw (ap (λ (h : Holding). h .startshort) s) (q .startshort))
-      (fewer-by (o .sell) (length (x .accounts)) (contractOf x k number quote next g o p z .limit) place accountsAfter
-      (remainder (takerOf x number quote o) (limitOf (o .condition)) (o .lots - tradedLots (lots-swept .trades)) ∷ mine)
-      (restLots (takerOf x number quote o) (limitOf (o .condition)) (rested x k number quote next g o p z) mine) (lots-swept .rest) (lots-swept .rest)
-      (rested-fewer (takerOf x number quote o) (limitOf (o .condition)) (rested x k number quote next g o p z) (o .lots - tradedLots (lots-swept .trades)) mine
-      (rested-left x k number quote next g o p z)) (λ close b. omega arith) (swept-holdings .kept) a l))
+      (kept-after contractLimit kept-before a l))
 
   -- the quote marks: one more, if it is marked
   marks-before : (sell : Bool) → MarksOk (x .accounts) (own sell (listingOf x o))
@@ -282,7 +295,7 @@ module _ (x : Exchange) (k : WellFormed x) (number quote next : ℕ) (g : Given 
       (o .lots) (contractOf x k number quote next g o p z .last) others (last-on-tick x k number quote next g o p z)
       (subst (λ (n : ℕ). allOf (orderInRange n (x .next) (x .nextstamp) (contractOf x k number quote next g o p z)) others ≡ true) (sym accounts) (sides x k number quote next g o p z .others-orders)) others-numbers)
 
-  its-trades : allOf (ofContract place) (lots-swept .trades) ≡ true
+  pub its-trades : allOf (ofContract place) (lots-swept .trades) ≡ true
   unfolding takerOf restWhole enter allOf
   its-trades =
       entered-either x number quote o (λ e. allOf (ofContract place) (e .trades) ≡ true) (λ e. refl)
@@ -303,7 +316,7 @@ module _ (x : Exchange) (k : WellFormed x) (number quote next : ℕ) (g : Given 
         stamps = once-more stampOf (λ r lots. (refl, refl)) (k .stamps-once) (given-unused stampOf (x .nextstamp) (length (x .accounts)) (x .next) (x .nextstamp) (λ c r q. q .stamp-high) (x .listings) (k .listing));
         ranges = new-trades;
         here = its-trades;
-        never = swept-holdings .never;
+        never = swept-holdings contractLimit kept-before .never;
         holding = holding-after;
         marks = marks-after;
       }

@@ -8,7 +8,7 @@ use borrow.Author.Tests.{leb-true, leb-false, ltb-false, le-leb, not-false}
 use lib.Dec.{leb, ltb}
 use lib.ListN.{length}
 use Rattle.laws.specs.Choice.{pick, pick-true, pick-false, both-true, true-both, either-false}
-use Rattle.rules.specs.Answers.{firstOf, insertRefusals, orderRefusals, isGoodForDay, isLimit, listingOf, priceRefusedBy, holdingRefused, lotsRefused, mark, fillableLots, tradesNeeded, tradesRefused, numbersUsedUp, stampsUsedUp, conditionsRefused, dayWithoutLimit}
+use Rattle.rules.specs.Answers.{firstOf, insertRefusals, orderRefusals, isFillOrKill, isGoodForDay, isLimit, listingOf, priceRefusedBy, holdingRefused, lotsRefused, mark, fillableLots, tradesNeeded, tradesRefused, numbersUsedUp, stampsUsedUp, conditionsRefused, dayWithoutLimit}
 use Rattle.rules.specs.Bounds.{within, allowedToday, numbersEnd, maxLots, maxTrades, maxResting, inAuction}
 use Rattle.rules.specs.Exchange.{Exchange, listingAt, placeOf, own, holdingAt, restingOpens, restingCloses}
 use Rattle.rules.specs.WellFormed.{allNumbers, numberOf}
@@ -43,6 +43,7 @@ pub record Passes (x : Exchange) (number : ℕ) (o : NewOrder) : Type 0 where
       held (o .sell) (itsHolding x o) + restingOpens (placeOf (o .account)) (itsQueue x o) + o .lots ≤ listingOf x o .contract .limit
   pub closes : o .close ≡ true → restingCloses (placeOf (o .account)) (itsQueue x o) + o .lots ≤ held (not (o .sell)) (itsHolding x o)
   pub stamp : x .nextstamp < numbersEnd
+  pub kill : isFillOrKill (o .time) ≡ true → o .lots ≤ fillableLots x o
   pub trades : length (x .trades) + tradesNeeded x number o ≤ maxTrades
   pub room : isGoodForDay (o .time) ≡ true → maxResting ≤ length (itsQueue x o) →
       (inAuction (listingOf x o .contract) ≡ false) × (o .lots ≤ fillableLots x o)
@@ -149,13 +150,14 @@ module _ (x : Exchange) (o : NewOrder) (f : Failed (orderRefusals x o)) where
         opens = open-lots x o (f .1 .1 .1 .0);
         closes = close-lots x o (f .1 .1 .1 .0);
         stamp = counters x (f .1 .1 .1 .1 .1 .0) .1;
+        kill = λ h. ltb-false _ _ (both-failed (isFillOrKill (o .time)) (ltb (fillableLots x o) (o .lots)) (f .1 .1 .1 .1 .1 .1 .0) h);
         trades = ltb-false _ _ (f .1 .1 .1 .1 .1 .1 .1 .0);
         room = has-room (listingOf x o .contract) (isGoodForDay (o .time)) (length (itsQueue x o)) (o .lots) (fillableLots x o) (f .1 .1 .1 .1 .1 .1 .1 .1 .0);
       }
 
 -- an insert
 module _ (x : Exchange) (o : NewOrder) (e : firstOf (insertRefusals x o) ≡ 0) where
-  tests : Failed (insertRefusals x o)
+  pub tests : Failed (insertRefusals x o)
   unfolding insertRefusals orderRefusals
   tests = failed (insertRefusals x o) (omega arith) e
 

@@ -128,10 +128,11 @@ pub record KeptAt (limit c : ℕ) (l : List Account) (buys sells : List Order) (
   pub buy-closes : restingCloses a buys ≤ holdingAt l a c .short
   pub sell-closes : restingCloses a sells ≤ holdingAt l a c .long
 
-abbrev pub Kept : ℕ → ℕ → ℕ → List Account → List Order → List Order → Type 0
-Kept accounts limit c l buys sells = (a : ℕ) → a < accounts → KeptAt limit c l buys sells a
+-- each account within a bound of its own: its contract's limit, or what it is charged for
+abbrev pub Kept : ℕ → (ℕ → ℕ) → ℕ → List Account → List Order → List Order → Type 0
+Kept accounts limit c l buys sells = (a : ℕ) → a < accounts → KeptAt (limit a) c l buys sells a
 
-module _ (accounts limit c : ℕ) (l : List Account) (b s : Order) (buys sells : List Order) (k : ℕ)
+module _ (accounts : ℕ) (limit : ℕ → ℕ) (c : ℕ) (l : List Account) (b s : Order) (buys sells : List Order) (k : ℕ)
     (buy-lots : k ≤ b .lots) (sell-lots : k ≤ s .lots) (buy-mark : b .close ≤ 1) (sell-mark : s .close ≤ 1)
     (buyer : b .account < accounts) (seller : s .account < accounts) (kept : Kept accounts limit c l (b ∷ buys) (s ∷ sells)) where
   pub buyer-covered : legCovered l (b .account) c false (b .close) k ≡ true

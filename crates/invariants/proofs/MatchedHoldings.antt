@@ -26,11 +26,11 @@ use Rattle.invariants.proofs.Legs.{Kept, buyer-covered, seller-covered,
 use Rattle.invariants.proofs.SweptHoldings.{Fewer, fewer-kept, fewer-none}
 
 -- no trade closes what is not held, and limits and coverage are kept with the orders that are left
-pub record MatchKept (accounts limit c : ℕ) (l : List Account) (m : Matched) : Type 0 where
+pub record MatchKept (accounts : ℕ) (limit : ℕ → ℕ) (c : ℕ) (l : List Account) (m : Matched) : Type 0 where
   pub never : neverBelowZero l (m .trades) ≡ true
   pub kept : Kept accounts limit c (bookTrades l (m .trades)) (m .buys) (m .sells)
 
-pub unmatched-kept : (accounts limit c : ℕ) (l : List Account) (bs ss : List Order) → Kept accounts limit c l bs ss → MatchKept accounts limit c l (unmatched bs ss)
+pub unmatched-kept : (accounts : ℕ) (limit : ℕ → ℕ) (c : ℕ) (l : List Account) (bs ss : List Order) → Kept accounts limit c l bs ss → MatchKept accounts limit c l (unmatched bs ss)
 unfolding bookTrades
 unmatched-kept accounts limit c l bs ss k = record { never = never-nil l; kept = k }
 
@@ -42,7 +42,7 @@ less-fewer n o os = cases (ltb n (o .lots)) refl
     cases true e = rw (less-part n o os (ltb-true n (o .lots) e)) (λ close a. omega arith)
     cases false e = rw (less-filled n o os (ltb-false n (o .lots) e)) (fewer-none (withLots o (o .lots - n)) os)
 
-module _ (accounts limit next nextstamp : ℕ) (contract : Contract) (c price : ℕ) where
+module _ (accounts : ℕ) (limit : ℕ → ℕ) (next nextstamp : ℕ) (contract : Contract) (c price : ℕ) where
   abbrev test : Order → Bool
   test = orderInRange accounts next nextstamp contract
 

@@ -31,6 +31,7 @@ use Rattle.rules.proofs.AuctionTrades.{match-contract, match-prices}
 use Rattle.rules.proofs.AuctionUncrossed.{hasLots}
 use Rattle.rules.proofs.Holdings.{booked-start-holding}
 use Rattle.rules.proofs.Refusals.{failed, present}
+use Rattle.rules.proofs.Sweep.{ofContract}
 use Rattle.invariants.proofs.Carry.{Allows, orders-carried}
 use Rattle.invariants.proofs.Clauses.{order-ok, ListingOk, HoldingOk, MarksOk, WellFormed, Counted}
 use Rattle.invariants.proofs.InsertListing.{contract-traded}
@@ -40,7 +41,6 @@ use Rattle.invariants.proofs.Marks.{allowed-fewer, markOf, mark-fewer, 
 use Rattle.invariants.proofs.MatchedHoldings.{MatchKept, match-kept, unmatched-kept}
 use Rattle.invariants.proofs.MatchedTrades.{matched-in-range}
 use Rattle.invariants.proofs.Numbers.{KeptByLots, all-uses, once-count, uses, usesIn}
-use Rattle.invariants.proofs.SweptTrades.{ofContract}
 use Rattle.invariants.proofs.Traded.{TradesOk, traded-accounts, traded-allows, traded-counted, traded-keeps, traded-listings}
 
 -- ---- the contract
@@ -59,18 +59,18 @@ contract-phase c phase l h =
 -- ---- the match
 
 -- the queue of a side
-abbrev left : Bool → Matched → List Order
+abbrev pub left : Bool → Matched → List Order
 left sell m = pick sell (m .sells) (m .buys)
 
 module _ (x : Exchange) (k : WellFormed x) (c : ℕ) (there : c < length (x .listings)) where
-  abbrev before : Listing
+  abbrev pub before : Listing
   before = listingAt x c
 
-  abbrev inRange : Order → Bool
+  abbrev pub inRange : Order → Bool
   inRange = orderInRange (length (x .accounts)) (x .next) (x .nextstamp) (before .contract)
 
   -- what a match leaves of a listing in range, and what it trades
-  record MatchOk (m : Matched) : Type 0 where
+  pub record MatchOk (m : Matched) : Type 0 where
     pub order : (sell : Bool) → sorted sell (left sell m) ≡ true
     pub apart : uncrossed (m .buys) (m .sells) ≡ true
     pub orders : (sell : Bool) → allOf inRange (left sell m) ≡ true
@@ -79,14 +79,14 @@ module _ (x : Exchange) (k : WellFormed x) (c : ℕ) (there : c < length (x .lis
     pub ranges : (y : Exchange) → c < length (y .listings) → length (y .accounts) ≡ length (x .accounts) → x .next ≤ y .next →
         Allows (before .contract) (listingAt y c .contract) → allOf (tradeInRange y) (m .trades) ≡ true
     pub here : allOf (ofContract c) (m .trades) ≡ true
-    pub holdings : MatchKept (length (x .accounts)) (before .contract .limit) c (x .accounts) m
+    pub holdings : (limit : ℕ → ℕ) → Kept (length (x .accounts)) limit c (x .accounts) (before .buys) (before .sells) → MatchKept (length (x .accounts)) limit c (x .accounts) m
     pub shorter : (sell : Bool) → length (left sell m) ≤ length (own sell before)
     pub marks : (sell : Bool) → MarksOk (x .accounts) (left sell m)
 
   ok : ListingOk (length (x .accounts)) (x .next) (x .nextstamp) before
   ok = k .listing c there
 
-  kept-now : Kept (length (x .accounts)) (before .contract .limit) c (x .accounts) (before .buys) (before .sells)
+  pub kept-now : Kept (length (x .accounts)) (λ a. before .contract .limit) c (x .accounts) (before .buys) (before .sells)
   kept-now a l =
       let q = k .holding a c l there in
       record { buy-opens = q .opens false; sell-opens = q .opens true; buy-closes = q .closes false; sell-closes = q .closes true }
@@ -103,7 +103,7 @@ module _ (x : Exchange) (k : WellFormed x) (c : ℕ) (there : c < length (x .lis
         values = λ field kept n. le-refl _;
         ranges = λ y t s l a. refl;
         here = refl;
-        holdings = unmatched-kept (length (x .accounts)) (before .contract .limit) c (x .accounts) (before .buys) (before .sells) kept-now;
+        holdings = λ limit. unmatched-kept (length (x .accounts)) limit c (x .accounts) (before .buys) (before .sells);
         shorter = λ sell. le-refl _;
         marks = k .marks c there;
       }
@@ -169,18 +169,18 @@ module _ (x : Exchange) (k : WellFormed x) (c : ℕ) (there : c < length (x .lis
             auction-either c (before .contract .last) (before .buys) (before .sells) (λ m. allOf (ofContract c) (m .trades) ≡ true) (λ z. refl)
             (λ some. match-contract c price (before .buys) (before .sells));
         holdings =
-            auction-either c (before .contract .last) (before .buys) (before .sells)
-            (λ m. MatchKept (length (x .accounts)) (before .contract .limit) c (x .accounts) m)
-            (λ z. unmatched-kept (length (x .accounts)) (before .contract .limit) c (x .accounts) (before .buys) (before .sells) kept-now)
-            (λ some. match-kept (length (x .accounts)) (before .contract .limit) (x .next) (x .nextstamp) (before .contract) c price (before .buys) (before .sells) (x .accounts)
-            (ok .orders false) (ok .orders true) kept-now);
+            λ limit kept. auction-either c (before .contract .last) (before .buys) (before .sells)
+            (λ m. MatchKept (length (x .accounts)) limit c (x .accounts) m)
+            (λ z. unmatched-kept (length (x .accounts)) limit c (x .accounts) (before .buys) (before .sells) kept)
+            (λ some. match-kept (length (x .accounts)) limit (x .next) (x .nextstamp) (before .contract) c price (before .buys) (before .sells) (x .accounts)
+            (ok .orders false) (ok .orders true) kept);
         shorter = λ sell. taken sell .1 .shorter;
         marks =
             λ sell. marks-left (x .accounts) (left sell matched) (k .marks c there sell)
             (taken sell .1 .kept (markAllowed (x .accounts)) (allowed-fewer (x .accounts))) (λ a. taken sell .1 .atmost (markOf a) (mark-fewer a));
       }
 
-  match-ok : MatchOk (matchOf x c)
+  pub match-ok : MatchOk (matchOf x c)
   match-ok = match-either x c MatchOk (λ e. matched-ok) unmatched-ok
 
   -- ---- the state after it
@@ -206,7 +206,7 @@ module _ (x : Exchange) (k : WellFormed x) (c : ℕ) (there : c < length (x .lis
     holding-after a h =
         let s = booked-start-holding (x .accounts) (matchOf x c .trades) a c in
         let q = k .holding a c h there in
-        let r = match-ok .holdings .kept a h in
+        let r = match-ok .holdings (λ a. before .contract .limit) kept-now .kept a h in
         record {
           startlong = rw (ap (λ (h : Holding). h .startlong) s) (q .startlong);
           startshort = rw (ap (λ (h : Holding). h .startshort) s) (q .startshort);
@@ -243,7 +243,7 @@ module _ (x : Exchange) (k : WellFormed x) (c : ℕ) (there : c < length (x .lis
               (traded-accounts x c after (matchOf x c .trades) (x .next) (x .nextstamp)) (le-refl (x .next))
               (traded-allows x c after (matchOf x c .trades) (x .next) (x .nextstamp) there allows-here c);
           here = match-ok .here;
-          never = match-ok .holdings .never;
+          never = match-ok .holdings (λ a. before .contract .limit) kept-now .never;
           holding = holding-after;
           marks = marks-after;
         }
@@ -263,7 +263,7 @@ module _ (x : Exchange) (k : WellFormed x) (c : ℕ) (there : c < length (x .lis
 -- ---- an accepted change
 
 module _ (x : Exchange) (contract phase : ℕ) (e : firstOf ((1 when not (phaseKnown phase)) ∷ phaseRefusals x contract phase) ≡ 0) (k : WellFormed x) where
-  passes : (placeOf contract < length (x .listings)) × ((phase ≤ maxPhase) × (length (x .trades) + length (matchOf x (placeOf contract) .trades) ≤ maxTrades))
+  pub passes : (placeOf contract < length (x .listings)) × ((phase ≤ maxPhase) × (length (x .trades) + length (matchOf x (placeOf contract) .trades) ≤ maxTrades))
   unfolding phaseRefusals
   passes =
       let f = failed ((1 when not (phaseKnown phase)) ∷ phaseRefusals x contract phase) (omega arith) e in

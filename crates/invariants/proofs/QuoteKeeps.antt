@@ -157,26 +157,44 @@ module _ (x : Exchange) (w : WellFormed x) (q : Offered) (account-there : placeO
 
 -- ---- a quote that is refused for nothing
 
+-- its first two stages are well formed, and its contract is there throughout
+pub record QuoteStages (x : Exchange) (q : Offered) : Type 0 where
+  pub there : placeOf (q .contract) < length (x .listings)
+  pub without : WellFormed (withoutQuote x q)
+  pub without-there : placeOf (q .contract) < length (withoutQuote x q .listings)
+  pub bought : WellFormed (withBuy x q)
+  pub bought-there : placeOf (q .contract) < length (withBuy x q .listings)
+
 module _ (x : Exchange) (w : WellFormed x) (q : Offered) (e : firstOf (quoteRefusals x q) ≡ 0) where
-  tests : Failed (quoteRefusals x q)
+  pub tests : Failed (quoteRefusals x q)
   unfolding quoteRefusals orderRefusals
   tests = failed (quoteRefusals x q) (omega arith) e
 
-  holder : placeOf (q .account) < length (x .accounts)
+  pub holder : placeOf (q .account) < length (x .accounts)
   unfolding quoteRefusals
   holder = present (q .account) (x .accounts) (tests .0)
 
-  listed : placeOf (q .contract) < length (x .listings)
+  pub listed : placeOf (q .contract) < length (x .listings)
   unfolding quoteRefusals
   listed = present (q .contract) (x .listings) (tests .1 .0)
 
-  maker : accountAt (x .accounts) (placeOf (q .account)) .maker ≡ 1
+  pub maker : accountAt (x .accounts) (placeOf (q .account)) .maker ≡ 1
   unfolding quoteRefusals
   maker = eqb-true (accountAt (x .accounts) (placeOf (q .account)) .maker) 1 (not-false (eqb (accountAt (x .accounts) (placeOf (q .account)) .maker) 1) (tests .1 .1 .1 .0))
 
-  codes : Failed (orderRefusals (withoutQuote x q) (buyOf q)) × Failed (orderRefusals (withBuy x q) (sellOf q))
+  pub codes : Failed (orderRefusals (withoutQuote x q) (buyOf q)) × Failed (orderRefusals (withBuy x q) (sellOf q))
   unfolding quoteRefusals
   codes = failed-both (orderRefusals (withoutQuote x q) (buyOf q)) (orderRefusals (withBuy x q) (sellOf q)) (tests .1 .1 .1 .1 .1)
+
+  pub quote-stages : QuoteStages x q
+  quote-stages =
+      record {
+        there = listed;
+        without = gone-keeps x w q holder listed;
+        without-there = gone-there x w q holder listed;
+        bought = buy-keeps x w q holder listed maker (codes .0);
+        bought-there = rw (buy-listings x w q holder listed maker (codes .0)) (gone-there x w q holder listed);
+      }
 
   pub quote-keeps : WellFormed (lastOf x (quoted x q .stages))
   unfolding quoted

@@ -122,7 +122,7 @@ module _ (test : Order → Bool) where
 
 module _ (x : Exchange) (account contract : ℕ) (operator : Bool) where
   module _ (number : ℕ) (e : firstOf (cancelRefusals x account contract operator number) ≡ 0) where
-    cancel-there : placeOf contract < length (x .listings)
+    pub cancel-there : placeOf contract < length (x .listings)
     unfolding cancelRefusals pullRefusals
     cancel-there = present contract (x .listings) (failed (cancelRefusals x account contract operator number) (omega arith) e .1 .0)
 
@@ -135,7 +135,7 @@ module _ (x : Exchange) (account contract : ℕ) (operator : Bool) where
     cancel-counted = removed-counted (hasNumber number) x (placeOf contract) cancel-there number
 
   module _ (e : firstOf (pullRefusals x account contract operator) ≡ 0) where
-    pull-there : placeOf contract < length (x .listings)
+    pub pull-there : placeOf contract < length (x .listings)
     unfolding pullRefusals
     pull-there = present contract (x .listings) (failed (pullRefusals x account contract operator) (omega arith) e .1 .0)
 

@@ -1,7 +1,7 @@
 -- Which orders may rest after a command, and with which time stamps: those that rested before with their numbers and time stamps, and those
 -- that it enters. What each kind enters stands in `EachKind`. Where every time stamp is the order's number, price and time stamp are price
 -- and number. Assumes nothing.
-use mathlib.Core.Bool.{Bool, true, false, not, _&&_, _||_, false≢true}
+use mathlib.Core.Bool.{Bool, true, false, _&&_, _||_, false≢true}
 use mathlib.Core.List.{List, [], _∷_}
 use mathlib.Core.Path.{_≡_, refl, sym, _∙_}
 use Prim.Native.Nat.{ℕ, zero, suc, _+_, _≤_}
@@ -9,30 +9,24 @@ use native.Mathlib.Nat.{le-refl}
 use native.Mathlib.Omega.{arith}
 use borrow.Author.Tests.{eqb-true, eq-eqb}
 use lib.Dec.{eqb, ltb}
-use lib.ListN.{getD, set, length}
+use lib.ListN.{getD, length}
 use Rattle.laws.specs.Choice.{pick, allOf, allOf-imp, both-true, true-both, true-either, either-true}
 use Rattle.laws.specs.Tabulate.{tabulate}
-use Rattle.rules.specs.Answers.{listingOf, numbersUsedUp, stampsUsedUp, takerOf}
-use Rattle.rules.specs.Auction.{Matched, matchAt, matchOf}
-use Rattle.rules.specs.Change.{Asked, arriving, changed, gone, listingLessened, placeKept, placeLost, reentered, unchanged}
-use Rattle.rules.specs.Exchange.{Exchange, Listing, listingAt, listingNamed, noListing, opposite, own, placeOf, worse}
+use Rattle.rules.specs.Answers.{numbersUsedUp, stampsUsedUp, takerOf}
+use Rattle.rules.specs.Auction.{matchOf}
+use Rattle.rules.specs.Change.{Asked, arriving, changed, gone, placeKept, placeLost, reentered, unchanged}
+use Rattle.rules.specs.Exchange.{Exchange, Listing, listingAt, noListing, own, placeOf, worse}
 use Rattle.rules.specs.Kinds.{lastOf}
-use Rattle.rules.specs.Matching.{enter, remainder, restLots, restWhole}
+use Rattle.rules.specs.Matching.{remainder}
 use Rattle.rules.specs.Quote.{Offered, buyOf, quoted, sellOf, withBuy, withSell, withoutQuote}
 use Rattle.rules.specs.Settlement.{settled, settledListing}
-use Rattle.rules.specs.Step.{cancelled, enteredOf, exchangeAfter, exchangeMatched, hasNumber, limitOf, listingAfter, listingMatched, listingWithout, removed, withListing}
+use Rattle.rules.specs.Step.{cancelled, enteredOf, exchangeAfter, exchangeMatched, hasNumber, listingWithout, removed, withListing}
 use Rattle.rules.specs.WellFormed.{ahead, isQuoteOf}
 use Rattle.rules.specs.declared.NewOrder.{NewOrder}
 use Rattle.rules.specs.declared.Order.{Order}
-use Rattle.rules.proofs.AuctionOutcome.{auction-either}
-use Rattle.rules.proofs.AuctionSteps.{entered-either, match-either}
-use Rattle.rules.proofs.AuctionTaken.{KeptWithFewer, less-kept}
-use Rattle.rules.proofs.AuctionTurns.{match-ind}
+use Rattle.rules.proofs.AuctionTaken.{KeptWithFewer}
 use Rattle.rules.proofs.Changes.{changed-either}
-use Rattle.rules.proofs.Lessened.{same-all}
-use Rattle.rules.proofs.Rest.{rest-all}
-use Rattle.invariants.proofs.InsertQueues.{other-own, rested-all}
-use Rattle.invariants.proofs.Removal.{without-all}
+use Rattle.invariants.proofs.AllResting.{entered-resting, lessened-resting, matched-resting, without-resting}
 
 -- ---- which orders there may be after a step
 
@@ -91,99 +85,20 @@ module _ (x : Exchange) (new : List Stamped) where
   follows-lots : (c : ℕ) (sell : Bool) → KeptWithFewer (follows x new c sell)
   follows-lots c sell o n low high h = h
 
-  -- one listing replaced
-  set-all : (P : ℕ → Listing → Type 0) (ls : List Listing) (d : ℕ) (m : Listing) → ((c : ℕ) → P c (getD ls c noListing)) → P d m → (c : ℕ) → P c (getD (set ls d m) c noListing)
-  set-all P [] d m h p c = h c
-  set-all P (l ∷ ls) zero m h p zero = p
-  set-all P (l ∷ ls) zero m h p (suc c) = h (suc c)
-  set-all P (l ∷ ls) (suc d) m h p zero = h zero
-  set-all P (l ∷ ls) (suc d) m h p (suc c) = set-all (λ i n. P (suc i) n) ls d m (λ i. h (suc i)) p c
-
-  relisted-follow : (y z : Exchange) (d : ℕ) (m : Listing) → z .listings ≡ set (y .listings) d m → Follow x new y →
-      ((sell : Bool) → allOf (follows x new d sell) (own sell m) ≡ true) → Follow x new z
-  unfolding listingAt
-  relisted-follow y z d m e h p c sell =
-      rw e (set-all (λ (i : ℕ) (l : Listing). (side : Bool) → allOf (follows x new i side) (own side l) ≡ true) (y .listings) d m h p c sell)
-
-  -- ---- orders taken out
-
   pub without-follow : (d : ℕ) (test : Order → Bool) → Follow x new (withListing x d (listingWithout test (listingAt x d)))
-  without-follow d test =
-      relisted-follow x (withListing x d (listingWithout test (listingAt x d))) d (listingWithout test (listingAt x d)) refl same-follow by-side
-    where
-      by-side : (sell : Bool) → allOf (follows x new d sell) (own sell (listingWithout test (listingAt x d))) ≡ true
-      by-side true = without-all test (follows x new d true) (listingAt x d .sells) (same-follow d true)
-      by-side false = without-all test (follows x new d false) (listingAt x d .buys) (same-follow d false)
+  without-follow d test = without-resting (follows x new) follows-lots x same-follow d test
 
-  -- ---- an order entered, in a state whose orders follow
-
-  module _ (y : Exchange) (h : Follow x new y) (number quote : ℕ) (given : among new number (y .nextstamp) ≡ true) (o : NewOrder) where
-    abbrev place : ℕ
-    place = placeOf (o .contract)
-
-    mine-follow : (lots price : ℕ) → allOf (follows x new place (o .sell)) (restLots (takerOf y number quote o) price lots (own (o .sell) (listingOf y o))) ≡ true
-    unfolding takerOf remainder listingOf
-    mine-follow lots price =
-        rested-all (takerOf y number quote o) price (follows x new place (o .sell)) lots (own (o .sell) (listingOf y o))
-        (λ some. either-true (restsIn (own (o .sell) (listingAt x place)) number (y .nextstamp)) (among new number (y .nextstamp)) given)
-        (h place (o .sell))
-
-    others-follow : allOf (follows x new place (not (o .sell))) (opposite (o .sell) (listingOf y o)) ≡ true
-    unfolding listingOf
-    others-follow = rw (← other-own (o .sell) (listingAt y place)) (h place (not (o .sell)))
-
-    queues-follow : (mine others : List Order) → allOf (follows x new place (o .sell)) mine ≡ true → allOf (follows x new place (not (o .sell))) others ≡ true →
-        (sell : Bool) → allOf (follows x new place sell) (pick sell (pick (o .sell) mine others) (pick (o .sell) others mine)) ≡ true
-    queues-follow mine others p q = by-side (o .sell) p q
-      where
-        by-side : (s : Bool) → allOf (follows x new place s) mine ≡ true → allOf (follows x new place (not s)) others ≡ true →
-            (sell : Bool) → allOf (follows x new place sell) (pick sell (pick s mine others) (pick s others mine)) ≡ true
-        by-side true p q true = p
-        by-side true p q false = q
-        by-side false p q true = q
-        by-side false p q false = p
-
-    entered-follow : (next : ℕ) → Follow x new (exchangeAfter y o (enteredOf y number quote o) next)
-    unfolding exchangeAfter listingAfter restWhole enter
-    entered-follow next =
-        relisted-follow y (exchangeAfter y o (enteredOf y number quote o) next) place (listingAfter (listingOf y o) (o .sell) (enteredOf y number quote o)) refl h
-        (entered-either y number quote o
-        (λ e. (sell : Bool) → allOf (follows x new place sell) (own sell (listingAfter (listingOf y o) (o .sell) e)) ≡ true)
-        (λ a. queues-follow _ _ (mine-follow (o .lots) (limitOf (o .condition))) others-follow)
-        (λ a. queues-follow _ _ (mine-follow _ (limitOf (o .condition)))
-        (rest-all (follows x new place (not (o .sell))) (follows-lots place (not (o .sell))) (takerOf y number quote o) (o .lots) (listingOf y o .contract .last) (opposite (o .sell) (listingOf y o)) others-follow)))
-
-  -- ---- the match of an auction
-
-  matched-all : (c price : ℕ) (p q : Order → Bool) → KeptWithFewer p → KeptWithFewer q → (buys sells : List Order) → allOf p buys ≡ true → allOf q sells ≡ true →
-      (allOf p (matchAt c price buys sells .buys) ≡ true) × (allOf q (matchAt c price buys sells .sells) ≡ true)
-  matched-all c price p q k l =
-      match-ind c price (λ bs ss m. allOf p bs ≡ true → allOf q ss ≡ true → (allOf p (m .buys) ≡ true) × (allOf q (m .sells) ≡ true))
-      (λ bs ss a g h. (g, h))
-      (λ b bs s ss m f r ih g h. ih (less-kept _ b bs p k g) (less-kept _ s ss q l h))
+  -- an order entered, in a state whose orders follow
+  entered-follow : (y : Exchange) → Follow x new y → (number quote : ℕ) → among new number (y .nextstamp) ≡ true → (o : NewOrder) (next : ℕ) → Follow x new (exchangeAfter y o (enteredOf y number quote o) next)
+  unfolding takerOf remainder
+  entered-follow y h number quote given o next =
+      entered-resting (follows x new) follows-lots y h number quote o
+      (λ price lots. either-true (restsIn (own (o .sell) (listingAt x (placeOf (o .contract)))) number (y .nextstamp)) (among new number (y .nextstamp)) given) next
 
   pub match-follow : (d phase : ℕ) → Follow x new (exchangeMatched x d phase (matchOf x d))
-  unfolding exchangeMatched listingMatched
-  match-follow d phase =
-      relisted-follow x (exchangeMatched x d phase (matchOf x d)) d (listingMatched (listingAt x d) phase (matchOf x d)) refl same-follow (by-side both-sides)
-    where
-      Both : Matched → Type 0
-      Both m = (allOf (follows x new d false) (m .buys) ≡ true) × (allOf (follows x new d true) (m .sells) ≡ true)
+  match-follow d phase = matched-resting (follows x new) follows-lots x same-follow d phase
 
-      both-sides : Both (matchOf x d)
-      both-sides =
-          match-either x d Both
-          (λ a. auction-either d (listingAt x d .contract .last) (listingAt x d .buys) (listingAt x d .sells) Both (λ z. (same-follow d false, same-follow d true))
-          (λ z. matched-all d _ (follows x new d false) (follows x new d true) (follows-lots d false) (follows-lots d true) (listingAt x d .buys) (listingAt x d .sells)
-          (same-follow d false) (same-follow d true)))
-          (λ a. (same-follow d false, same-follow d true))
-
-      by-side : Both (matchOf x d) → (sell : Bool) → allOf (follows x new d sell) (own sell (listingMatched (listingAt x d) phase (matchOf x d))) ≡ true
-      by-side b true = b .1
-      by-side b false = b .0
-
-  -- ---- a change
-
+  -- a change
   module _ (k : Asked) where
     gone-follow : Follow x new (gone x k)
     unfolding gone
@@ -194,13 +109,7 @@ module _ (x : Exchange) (new : List Stamped) where
     gone-stamps = refl
 
     kept-follow : Follow x new (lastOf x (placeKept x k .stages))
-    unfolding placeKept
-    kept-follow =
-        relisted-follow x (lastOf x (placeKept x k .stages)) (placeOf (k .contract)) _ refl same-follow by-side
-      where
-        by-side : (sell : Bool) → allOf (follows x new (placeOf (k .contract)) sell) (own sell (listingLessened k (listingNamed x (k .contract)))) ≡ true
-        by-side true = rw (same-all (k .number) (k .lots) (follows x new (placeOf (k .contract)) true) (λ o. refl) (listingNamed x (k .contract) .sells)) (same-follow (placeOf (k .contract)) true)
-        by-side false = rw (same-all (k .number) (k .lots) (follows x new (placeOf (k .contract)) false) (λ o. refl) (listingNamed x (k .contract) .buys)) (same-follow (placeOf (k .contract)) false)
+    kept-follow = lessened-resting (follows x new) follows-lots x same-follow k (λ sell o. refl)
 
 -- ---- what an insert, a change and a quote enter
 

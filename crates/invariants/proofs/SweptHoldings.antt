@@ -25,11 +25,11 @@ use Rattle.invariants.proofs.Clauses.{order-ok}
 use Rattle.invariants.proofs.Legs.{resting-cons, Kept, buyer-covered, seller-covered, trade-kept}
 
 -- the two queues by side: own and opposite
-abbrev pub KeptBy : Bool → ℕ → ℕ → ℕ → List Account → List Order → List Order → Type 0
+abbrev pub KeptBy : Bool → ℕ → (ℕ → ℕ) → ℕ → List Account → List Order → List Order → Type 0
 KeptBy sell accounts limit c l own opposite = Kept accounts limit c l (pick sell opposite own) (pick sell own opposite)
 
 -- one trade: both legs are covered, and both orders have so many lots fewer
-pub record TradeKept (accounts limit : ℕ) (t : Taker) (price : ℕ) (own : List Order) (l : List Account) (left last : ℕ)
+pub record TradeKept (accounts : ℕ) (limit : ℕ → ℕ) (t : Taker) (price : ℕ) (own : List Order) (l : List Account) (left last : ℕ)
     (o : Order) (os : List Order) : Type 0 where
   pub buy : legCovered l (tradeWith t o left last .buyer) (t .contract) false (tradeWith t o left last .buyclose) (min left (o .lots)) ≡ true
   pub sell : legCovered (bookBuyer l (tradeWith t o left last)) (tradeWith t o left last .seller) (t .contract) true (tradeWith t o left last .sellclose) (min left (o .lots)) ≡ true
@@ -37,7 +37,7 @@ pub record TradeKept (accounts limit : ℕ) (t : Taker) (price : ℕ) (own : Lis
       KeptBy (t .sell) accounts limit (t .contract) (bookTrade l (tradeWith t o left last)) (remainder t price (left - min left (o .lots)) ∷ own)
       (withLots o (o .lots - min left (o .lots)) ∷ os)
 
-module _ (accounts limit price : ℕ) (account contract close number stamp quote best : ℕ) (condition : PriceCondition) (method : PairingMethod) (own : List Order) (l : List Account)
+module _ (accounts : ℕ) (limit : ℕ → ℕ) (price : ℕ) (account contract close number stamp quote best : ℕ) (condition : PriceCondition) (method : PairingMethod) (own : List Order) (l : List Account)
     (here : account < accounts) (mark : close ≤ 1) where
   abbrev taker : Bool → Taker
   taker sell = record { account = account; contract = contract; sell = sell; close = close; number = number; stamp = stamp; quote = quote; condition = condition; method = method; best = best }
@@ -67,7 +67,7 @@ module _ (accounts limit price : ℕ) (account contract close number stamp quote
 abbrev pub Fewer : List Order → List Order → Type 0
 Fewer queue′ queue = (close a : ℕ) → resting close a queue′ ≤ resting close a queue
 
-pub fewer-kept : (accounts limit c : ℕ) (l : List Account) (buys buys′ sells sells′ : List Order) → Fewer buys′ buys → Fewer sells′ sells →
+pub fewer-kept : (accounts : ℕ) (limit : ℕ → ℕ) (c : ℕ) (l : List Account) (buys buys′ sells sells′ : List Order) → Fewer buys′ buys → Fewer sells′ sells →
     Kept accounts limit c l buys sells → Kept accounts limit c l buys′ sells′
 fewer-kept accounts limit c l buys buys′ sells sells′ f g k a h =
     let p = k a h in
@@ -78,7 +78,7 @@ fewer-kept accounts limit c l buys buys′ sells sells′ f g k a h =
       sell-closes = omega (arith, g 1 a);
     }
 
-pub fewer-by : (sell : Bool) (accounts limit c : ℕ) (l : List Account) (own own′ opposite opposite′ : List Order) → Fewer own′ own →
+pub fewer-by : (sell : Bool) (accounts : ℕ) (limit : ℕ → ℕ) (c : ℕ) (l : List Account) (own own′ opposite opposite′ : List Order) → Fewer own′ own →
     Fewer opposite′ opposite →
     KeptBy sell accounts limit c l own opposite → KeptBy sell accounts limit c l own′ opposite′
 fewer-by false accounts limit c l own own′ opposite opposite′ f g = fewer-kept accounts limit c l own own′ opposite opposite′ f g
@@ -92,19 +92,19 @@ fewer-same : (os : List Order) → Fewer os os
 fewer-same os close a = omega arith
 
 -- a whole sweep: no trade closes what is not held, and limits and coverage are kept with what is left of the lots
-pub record SweptKept (accounts limit price : ℕ) (t : Taker) (own : List Order) (l : List Account) (left : ℕ) (s : Swept) : Type 0 where
+pub record SweptKept (accounts : ℕ) (limit : ℕ → ℕ) (price : ℕ) (t : Taker) (own : List Order) (l : List Account) (left : ℕ) (s : Swept) : Type 0 where
   pub never : neverBelowZero l (s .trades) ≡ true
   pub kept : KeptBy (t .sell) accounts limit (t .contract) (bookTrades l (s .trades)) (remainder t price (left - tradedLots (s .trades)) ∷ own) (s .rest)
 
 -- an order that rests without matching makes no trades
-pub untouched-kept : (accounts limit price : ℕ) (t : Taker) (own : List Order) (l : List Account) (left : ℕ) (os : List Order) →
+pub untouched-kept : (accounts : ℕ) (limit : ℕ → ℕ) (price : ℕ) (t : Taker) (own : List Order) (l : List Account) (left : ℕ) (os : List Order) →
     KeptBy (t .sell) accounts limit (t .contract) l (remainder t price left ∷ own) os → SweptKept accounts limit price t own l left (untouched os)
 unfolding bookTrades
 untouched-kept accounts limit price t own l left os kept =
     let e : left - tradedLots [] ≡ left = omega (arith, traded-nil) in
     record { never = never-nil l; kept = rw e kept }
 
-module _ (accounts limit price next nextstamp : ℕ) (contract : Contract) (t : Taker) (own : List Order) (here : t .account < accounts)
+module _ (accounts : ℕ) (limit : ℕ → ℕ) (price next nextstamp : ℕ) (contract : Contract) (t : Taker) (own : List Order) (here : t .account < accounts)
     (mark : t .close ≤ 1) where
   abbrev test : Order → Bool
   test = orderInRange accounts next nextstamp contract

@@ -1,28 +1,24 @@
 -- The trades of a sweep are in range: accounts and contract exist, the two order numbers differ, the price is allowed today, the
--- lots are 1 to 1,000. They leave the holdings in other contracts alone. Assumes nothing.
+-- lots are 1 to 1,000. Assumes nothing.
 use mathlib.Core.Bool.{Bool, true, false, not, _&&_}
-use mathlib.Core.List.{List, [], _∷_}
-use mathlib.Core.Path.{_≡_, refl, sym, ap, _∙_}
+use mathlib.Core.List.{List}
+use mathlib.Core.Path.{_≡_, sym, ap}
 use Prim.Native.Nat.{ℕ, _<_, _≤_}
 use native.Mathlib.Omega.{arith}
-use borrow.Author.Tests.{eqb-true, eqb-false, eq-eqb, ne-eqb, not-true}
+use borrow.Author.Tests.{eqb-false, ne-eqb, not-true}
 use lib.Dec.{eqb}
 use lib.ListN.{length, getD}
 use Rattle.laws.specs.Choice.{pick, allOf, allOf-at, allOf-true, both-true, true-both}
 use Rattle.rules.specs.Bounds.{onTick, allowedToday}
-use Rattle.rules.specs.Exchange.{Exchange, listingAt, holdingAt, noOrder}
-use Rattle.rules.specs.Holdings.{bookTrade, bookTrades}
+use Rattle.rules.specs.Exchange.{Exchange, listingAt, noOrder}
 use Rattle.rules.specs.Matching.{tradePrice, sweep, tradeWith}
 use Rattle.rules.specs.WellFormed.{orderInRange, tradeInRange}
-use Rattle.rules.specs.declared.Account.{Account}
 use Rattle.rules.specs.declared.Contract.{Contract}
 use Rattle.rules.specs.declared.Order.{Order}
 use Rattle.rules.specs.declared.PriceCondition.the-variants.{Limit}
 use Rattle.rules.specs.declared.Taker.{Taker}
-use Rattle.rules.specs.declared.Trade.{Trade}
-use Rattle.rules.proofs.Holdings.{holding-other-trade}
 use Rattle.rules.proofs.Prices.{RoundsTo, allowed-facts, price-allowed}
-use Rattle.rules.proofs.Sweep.{sweep-ind, swept-each}
+use Rattle.rules.proofs.Sweep.{swept-each}
 use Rattle.invariants.proofs.Carry.{Allows}
 use Rattle.invariants.proofs.Clauses.{order-ok, trade-test}
 
@@ -86,25 +82,3 @@ module _ (y : Exchange) (t : Taker) (c : Contract)
       (allOf-true test os noOrder
       (λ i l. true-both (inRange (getD os i noOrder)) (not (eqb (t .number) (getD os i noOrder .number))) (allOf-at inRange os i noOrder h l)
       (allOf-at (λ o. not (eqb (t .number) (o .number))) os i noOrder other l)))
-
--- ---- all of one contract
-
-abbrev pub ofContract : ℕ → Trade → Bool
-ofContract c t = eqb (t .contract) c
-
-pub swept-contract : (t : Taker) (left last : ℕ) (os : List Order) → allOf (ofContract (t .contract)) (sweep t left last os .trades) ≡ true
-unfolding allOf tradeWith
-swept-contract t =
-    sweep-ind t (λ left last os s. allOf (ofContract (t .contract)) (s .trades) ≡ true)
-    (λ left last os w. refl)
-    (λ left last o os some met short. true-both (eqb (t .contract) (t .contract)) true (eq-eqb (t .contract) (t .contract) refl) refl)
-    (λ left last o os s some met enough ih. true-both (eqb (t .contract) (t .contract)) (allOf (ofContract (t .contract)) (s .trades))
-    (eq-eqb (t .contract) (t .contract) refl) ih)
-
-pub other-holding : (c : ℕ) (l : List Account) (ts : List Trade) (a d : ℕ) → allOf (ofContract c) ts ≡ true → (d ≡ c → ⊥) →
-    holdingAt (bookTrades l ts) a d ≡ holdingAt l a d
-unfolding allOf bookTrades
-other-holding c l [] a d h n = refl
-other-holding c l (t ∷ ts) a d h n =
-    let p = both-true (eqb (t .contract) c) (allOf (ofContract c) ts) h in
-    other-holding c (bookTrade l t) ts a d (p .1) n ∙ holding-other-trade l t a d (λ e. n (e ∙ eqb-true (t .contract) c (p .0)))

@@ -14,12 +14,12 @@ use Rattle.rules.specs.Holdings.{bookTrades, neverBelowZero}
 use Rattle.rules.specs.Step.{withTrades}
 use Rattle.rules.specs.WellFormed.{allNumbers, allStamps, tradeInRange, numberOf, stampOf}
 use Rattle.rules.specs.declared.Trade.{Trade}
-use Rattle.rules.proofs.Holdings.{length-bookTrades, booked-balance, booked-maker, replay-more, never-more}
+use Rattle.rules.proofs.Holdings.{length-bookTrades, booked-balance, booked-maker, other-holding, replay-more, never-more}
+use Rattle.rules.proofs.Sweep.{ofContract}
 use Rattle.invariants.proofs.Carry.{Allows, orders-carried, trades-carried}
 use Rattle.invariants.proofs.Clauses.{ListingOk, HoldingOk, MarksOk, WellFormed, Counted}
 use Rattle.invariants.proofs.Marks.{marks-carried}
 use Rattle.invariants.proofs.Numbers.{occurs, usesIn, once-changed}
-use Rattle.invariants.proofs.SweptTrades.{ofContract, other-holding}
 
 -- what such a step owes: contract c gets listing m, the trades ts are made, the next order number is n and the next time stamp s
 pub record TradesOk (x : Exchange) (c : ℕ) (m : Listing) (ts : List Trade) (n s : ℕ) : Type 0 where

@@ -12,11 +12,12 @@ use lib.Dec.{ltb, eqb}
 use lib.ListN.{length}
 use Rattle.laws.specs.Choice.{pick, pick-either, pick-true, allOf, allOf-append, allOf-imp, both-true, true-both}
 use Rattle.rules.specs.Auction.{Matched, auctionMatch, auctionPrice, chosenPrice, lotsReaching, matchAt, prices, restingPrices, unmatched, volume}
+use Rattle.rules.specs.AuctionFairness.{oneOf}
 use Rattle.rules.specs.Matching.{lastPrice, tradedLots}
 use Rattle.rules.specs.WellFormed.{sorted, uncrossed}
 use Rattle.rules.specs.declared.Order.{Order}
 use Rattle.rules.specs.declared.Trade.{Trade}
-use Rattle.rules.proofs.AuctionPrice.{chosen-largest, chosen-rests, one-passes, oneOf}
+use Rattle.rules.proofs.AuctionPrice.{chosen-largest, chosen-rests, one-passes}
 use Rattle.rules.proofs.AuctionTaken.{Taken, reaching-nil, taken-none}
 use Rattle.rules.proofs.AuctionTraded.{match-filled, match-taken, match-volume, volume-at-most}
 use Rattle.rules.proofs.AuctionTrades.{match-prices}

@@ -12,12 +12,9 @@ use lib.ListN.{length}
 use Rattle.laws.specs.Choice.{pick, pick-true, pick-false, allOf, allOf-imp, both-true, true-both, either-true, true-either}
 use Rattle.rules.specs.declared.Order.{Order}
 use Rattle.rules.specs.Auction.{apart, bestFrom, bestOf, better, chosenPrice, restingPrices, smaller, surplus, volume}
+use Rattle.rules.specs.AuctionFairness.{oneOf}
 
 -- ---- a price is one of a list
-
-unfoldable pub oneOf : List ℕ → ℕ → Bool
-oneOf [] price = false
-oneOf (p ∷ ps) price = eqb p price || oneOf ps price
 
 -- what every price of a list passes, one of them passes
 pub one-passes : (test : ℕ → Bool) (ps : List ℕ) (p : ℕ) → allOf test ps ≡ true → oneOf ps p ≡ true → test p ≡ true

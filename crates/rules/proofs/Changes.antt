@@ -20,7 +20,7 @@ use Rattle.rules.specs.declared.Trade.{Trade}
 use Rattle.rules.proofs.Stages.{decided}
 
 module _ (x : Exchange) (k : Asked) where
-  zero-keeps-none : eqb (k .lots) 0 ≡ true → losesPlace x k ≡ false
+  pub zero-keeps-none : eqb (k .lots) 0 ≡ true → losesPlace x k ≡ false
   unfolding losesPlace
   zero-keeps-none e = rw e
 

@@ -1,21 +1,33 @@
--- A command by its number and by the tag of the declared enum, and the order that an insert's bytes hold: laws by clauses on the
--- kinds, so that no other proof needs them. Assumes nothing.
-use mathlib.Core.Bool.{Bool, true, false, not, false≢true}
-use mathlib.Core.List.{List, [], _∷_}
+-- A command by its number and by the tag of the declared enum, the order that an insert's bytes hold, what a command names and where it
+-- works: laws by clauses on the kinds, so that no other proof needs them. Assumes nothing.
+use mathlib.Core.Bool.{Bool, true, false, not, true≢false, false≢true}
+use mathlib.Core.List.{List, [], _∷_, _++_}
 use mathlib.Core.Path.{_≡_, refl, sym, ap, _∙_, subst}
-use Prim.Native.Nat.{ℕ}
+use Prim.Native.Nat.{ℕ, _+_}
+use native.Mathlib.Omega.{arith}
 use borrow.Author.Tests.{ne-eqb}
 use denote.Enum.Declared.{tagOf}
 use lib.Dec.{T, eqb}
+use lib.IntN.{ℤ}
 use mir.Val.{hasKey}
 use types.Run.{OneOf, miss}
 use Rattle.laws.specs.Choice.{ap-pick, pick, pick-same}
-use Rattle.rules.specs.Command.{cancelOf, changeOf, commandOf, depositOf, insertOf, isSettle, kindNumber, newOrder, phaseOf, pullOf, quoteOf, settleOf, withdrawOf}
+use Rattle.rules.specs.Answers.{Refusal, absentRefusals, cancelRefusals, depositRefusals, firstOf, insertRefusals, phaseRefusals, pullRefusals, withdrawRefusals}
+use Rattle.rules.specs.Change.{asked, changeRefusals}
+use Rattle.rules.specs.Command.{Field, unused, holds, accountField, cancelOf, changeOf, commandOf, contractField, depositOf, insertOf, isPayment, isSettle, kindNumber, newOrder, phaseOf, pullOf, quoteOf, settleOf, withdrawOf}
+use Rattle.rules.specs.Exchange.{Exchange, absent, placeOf}
+use Rattle.rules.specs.Kinds.{codeOf, kindOf, lastOf}
+use Rattle.rules.specs.Quote.{offered, quoteRefusals}
+use Rattle.rules.specs.Step.{cancelled, deposited, inserted, paid, phaseChanged, pulled, removed, withdrawn}
+use Rattle.rules.specs.Touches.{isBlank}
 use Rattle.rules.specs.declared.Command.{Command}
 use Rattle.rules.specs.declared.Command.the-variants.{Malformed, Deposit, Withdraw, Insert, Cancel, Pull, Phase, Settle, Quote, Change}
 use Rattle.rules.specs.declared.NewOrder.{NewOrder}
 use Rattle.rules.specs.declared.Record.{Record}
+use Rattle.rules.specs.declared.Trade.{Trade}
 use Rattle.rules.proofs.Command.{the-type}
+use Rattle.rules.proofs.InContract.{InContract, changed-in, entered-in, matched-in, quoted-in, relisted-in}
+use Rattle.rules.proofs.Refusals.{both-zero, failed}
 
 tag-is : (d : Command) → tagOf the-type d ≡ kindNumber d
 tag-is Malformed = refl
@@ -75,3 +87,66 @@ order-in-bytes r = simp (either-order, pick-same)
 
 pub inserts-its-order : (r : Record) {o : NewOrder} → commandOf r ≡ Insert o → o ≡ newOrder r
 inserts-its-order r e = ap (orderIn (newOrder r)) (sym e) ∙ order-in-bytes r
+
+-- ---- what a command names
+
+-- a list of refusals that begins with those of absent numbers
+both-there : (x : Exchange) (account contract : ℕ) (rs : List Refusal) → firstOf (absentRefusals x account contract ++ rs) ≡ 0 →
+    (absent account (x .accounts) ≡ false) × (absent contract (x .listings) ≡ false)
+both-there x account contract rs e = let f = both-zero (absentRefusals x account contract) rs (omega arith) e .0 in (f .0, f .1 .0)
+
+-- of an accepted command neither field is blank
+pub accepted-named : (x : Exchange) (command : Command) → codeOf x command ≡ 0 →
+    (isBlank (accountField command) (x .accounts) ≡ false) × (isBlank (contractField command) (x .listings) ≡ false)
+unfolding codeOf kindOf depositRefusals withdrawRefusals insertRefusals cancelRefusals pullRefusals phaseRefusals quoteRefusals changeRefusals
+accepted-named x Malformed e = (refl, refl)
+accepted-named x (Deposit account amount) e = (failed (kindOf x (Deposit account amount) .refusals) (omega arith) e .0, refl)
+accepted-named x (Withdraw account amount) e = (failed (kindOf x (Withdraw account amount) .refusals) (omega arith) e .0, refl)
+accepted-named x (Insert o) e = both-there x (o .account) (o .contract) _ e
+accepted-named x (Cancel account contract operator number) e = both-there x account contract _ e
+accepted-named x (Pull account contract operator) e = both-there x account contract _ e
+accepted-named x (Phase contract phase) e = (refl, failed (kindOf x (Phase contract phase) .refusals) (omega arith) e .1 .0)
+accepted-named x Settle e = (refl, refl)
+accepted-named x (Quote account contract lots buy sell) e = both-there x account contract _ e
+accepted-named x (Change account contract number lots price) e = both-there x account contract _ e
+
+-- ---- where a command works: in the contract that it names, or on the balance of the account that it names
+
+-- in the contract of a field, with the trades that it makes there; where there is none, nothing changes
+abbrev pub Works : Field → Exchange → Exchange → Type 0
+Works unused x y = y ≡ x
+Works (holds number) x y = (ts : List Trade) × InContract (placeOf number) ts x y
+
+-- a command that is no payment and no settlement
+pub kind-works : (x : Exchange) (command : Command) → isPayment command ≡ false → isSettle command ≡ false →
+    Works (contractField command) x (lastOf x (kindOf x command .effect .stages))
+unfolding kindOf inserted cancelled pulled removed phaseChanged
+kind-works x Malformed p n = refl
+kind-works x (Deposit account amount) p n = absurd (true≢false p)
+kind-works x (Withdraw account amount) p n = absurd (true≢false p)
+kind-works x (Insert o) p n = (_, entered-in x o (x .next) 0 (x .next + 1))
+kind-works x (Cancel account contract operator number) p n = ([], relisted-in (placeOf contract) x _)
+kind-works x (Pull account contract operator) p n = ([], relisted-in (placeOf contract) x _)
+kind-works x (Phase contract phase) p n = (_, matched-in x (placeOf contract) phase)
+kind-works x Settle p n = absurd (true≢false n)
+kind-works x (Quote account contract lots buy sell) p n = (_, quoted-in x (offered account contract lots buy sell))
+kind-works x (Change account contract number lots price) p n = (_, changed-in x (asked account contract number lots price))
+
+-- the account of a field
+abbrev pub Pays : Field → Exchange → Exchange → Type 0
+Pays unused x y = y ≡ x
+Pays (holds number) x y = (balance : ℤ) × (y ≡ paid x (placeOf number) balance)
+
+-- a payment
+pub kind-pays : (x : Exchange) (command : Command) → isPayment command ≡ true → Pays (accountField command) x (lastOf x (kindOf x command .effect .stages))
+unfolding kindOf deposited withdrawn
+kind-pays x Malformed p = absurd (false≢true p)
+kind-pays x (Deposit account amount) p = (_, refl)
+kind-pays x (Withdraw account amount) p = (_, refl)
+kind-pays x (Insert o) p = absurd (false≢true p)
+kind-pays x (Cancel account contract operator number) p = absurd (false≢true p)
+kind-pays x (Pull account contract operator) p = absurd (false≢true p)
+kind-pays x (Phase contract phase) p = absurd (false≢true p)
+kind-pays x Settle p = absurd (false≢true p)
+kind-pays x (Quote account contract lots buy sell) p = absurd (false≢true p)
+kind-pays x (Change account contract number lots price) p = absurd (false≢true p)

@@ -39,7 +39,7 @@ swept-at-most t =
 
 -- ---- on a sorted queue, no order behind one that is no counterpart is one
 
-unmet-behind : (condition : PriceCondition) (sell : Bool) (best price other : ℕ) → Behind (not sell) price best → Behind (not sell) other price
+pub unmet-behind : (condition : PriceCondition) (sell : Bool) (best price other : ℕ) → Behind (not sell) price best → Behind (not sell) other price
     → meets condition sell best price ≡ false → meets condition sell best other ≡ false
 unfolding meets
 unmet-behind (Limit limit) true best price other b h e = lt-leb limit other (omega (arith, leb-false limit price e))

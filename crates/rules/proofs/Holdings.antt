@@ -8,13 +8,14 @@ use lib.Dec.{eqb}
 use lib.IntN.{ℤ}
 use lib.ListN.{length, getD, drop, length-set, List·getD-map}
 use lib.Seq.{getD-set-same, getD-set-other, map-set-same}
-use Rattle.laws.specs.Choice.{pick, pick-same, both-true}
+use Rattle.laws.specs.Choice.{pick, pick-same, allOf, both-true}
 use Rattle.laws.specs.Lists.{kept-at}
 use Rattle.rules.specs.Exchange.{accountAt, holdingAt, noAccount, noHolding}
 use Rattle.rules.specs.Holdings.{withLong, withShort, afterLeg, withHolding, bookLeg, bookBuyer, bookTrade, bookTrades, legCovered, neverBelowZero, startHolding, startAccount, startOfDay, sameLots, sameHoldings}
 use Rattle.rules.specs.declared.Account.{Account}
 use Rattle.rules.specs.declared.Holding.{Holding}
 use Rattle.rules.specs.declared.Trade.{Trade}
+use Rattle.rules.proofs.Sweep.{ofContract}
 
 -- ---- one leg
 
@@ -101,6 +102,15 @@ pub bookTrades-append : (l : List Account) (ts us : List Trade) → bookTrades l
 unfolding bookTrades
 bookTrades-append l [] us = refl
 bookTrades-append l (t ∷ ts) us = bookTrades-append (bookTrade l t) ts us
+
+-- trades of one contract leave the holdings in others as they are
+pub other-holding : (c : ℕ) (l : List Account) (ts : List Trade) (a d : ℕ) → allOf (ofContract c) ts ≡ true → (d ≡ c → ⊥) →
+    holdingAt (bookTrades l ts) a d ≡ holdingAt l a d
+unfolding allOf bookTrades
+other-holding c l [] a d h n = refl
+other-holding c l (t ∷ ts) a d h n =
+    let p = both-true (eqb (t .contract) c) (allOf (ofContract c) ts) h in
+    other-holding c (bookTrade l t) ts a d (p .1) n ∙ holding-other-trade l t a d (λ e. n (e ∙ eqb-true (t .contract) c (p .0)))
 
 -- what no trade changes
 pub length-bookTrades : (l : List Account) (ts : List Trade) → length (bookTrades l ts) ≡ length l

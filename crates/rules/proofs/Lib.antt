@@ -14,7 +14,6 @@ pub mod Terms
 pub mod LotsIncluded
 pub mod Refusals
 pub mod Stages
-pub mod EachKind
 pub mod AuctionTurns
 pub mod AuctionTaken
 pub mod AuctionPrice
@@ -26,3 +25,6 @@ pub mod AuctionSteps
 pub mod Changes
 pub mod Lessened
 pub mod WithoutMarks
+pub mod InContract
+pub mod EachKind
+pub mod Touches

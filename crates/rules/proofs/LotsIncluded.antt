@@ -28,12 +28,12 @@ unfolding chargedLots chargedLotsWith afterLeg
 held-or-come l a h true lots = ap₂ max (omega arith) (omega arith)
 held-or-come l a h false lots = ap₂ max (omega arith) (omega arith)
 
-no-lots : (l : Listing) (a : ℕ) (h : Holding) (sell : Bool) → chargedLots l a h ≡ chargedLotsWith l a h sell 0
+pub no-lots : (l : Listing) (a : ℕ) (h : Holding) (sell : Bool) → chargedLots l a h ≡ chargedLotsWith l a h sell 0
 unfolding chargedLots chargedLotsWith
 no-lots l a h true = ap₂ max (omega arith) (omega arith)
 no-lots l a h false = ap₂ max (omega arith) (omega arith)
 
-more-lots : (l : Listing) (a : ℕ) (h : Holding) (sell : Bool) (lots : ℕ) → chargedLots l a h ≤ chargedLotsWith l a h sell lots
+pub more-lots : (l : Listing) (a : ℕ) (h : Holding) (sell : Bool) (lots : ℕ) → chargedLots l a h ≤ chargedLotsWith l a h sell lots
 unfolding chargedLots chargedLotsWith
 more-lots l a h sell lots = omega arith
 

@@ -91,23 +91,24 @@ rounded-low tick m n some e h =
     let d : m / tick * tick ≤ n = omega (arith, div-mul-le-self m tick) in
     omega (arith, div-add-mod' m tick, mul-le-mul-right tick (le-div-iff-mul-le some .1 d))
 
-pub average-low : (tick a b : ℕ) → 1 ≤ tick → onTick tick a ≡ true → onTick tick b ≡ true → min a b ≤ average tick a b
+-- a tick multiple that neither price is below
+pub average-above : (tick m a b : ℕ) → 1 ≤ tick → onTick tick m ≡ true → m ≤ a → m ≤ b → m ≤ average tick a b
 unfolding average
+average-above tick m a b some e h k =
+    let two : 0 < 2 = omega arith in
+    let d : m * 2 ≤ a + b = omega arith in
+    rounded-low tick m ((a + b) / 2) some e (le-div-iff-mul-le two .1 d)
+
+pub average-low : (tick a b : ℕ) → 1 ≤ tick → onTick tick a ≡ true → onTick tick b ≡ true → min a b ≤ average tick a b
 average-low tick a b some ea eb = by-comparison (leb a b) refl
   where
-    half : (m : ℕ) → m ≤ a → m ≤ b → m ≤ (a + b) / 2
-    half m h k =
-        let two : 0 < 2 = omega arith in
-        let d : m * 2 ≤ a + b = omega arith in
-        le-div-iff-mul-le two .1 d
-
-    by-comparison : (x : Bool) → leb a b ≡ x → min a b ≤ (a + b) / 2 / tick * tick
+    by-comparison : (x : Bool) → leb a b ≡ x → min a b ≤ average tick a b
     by-comparison true p =
         let h : a ≤ b = leb-true a b p in
-        omega (arith, rounded-low tick a ((a + b) / 2) some ea (half a (omega arith) h))
+        omega (arith, average-above tick a a b some ea (omega arith) h)
     by-comparison false p =
         let h : b < a = leb-false a b p in
-        omega (arith, rounded-low tick b ((a + b) / 2) some eb (half b (omega arith) (omega arith)))
+        omega (arith, average-above tick b a b some eb (omega arith) (omega arith))
 
 pub average-high : (tick a b : ℕ) → average tick a b ≤ max a b
 unfolding average

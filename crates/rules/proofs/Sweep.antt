@@ -6,8 +6,8 @@ use mathlib.Core.Logic.{_⊎_, inl, inr}
 use mathlib.Core.Path.{_≡_, refl, _∙_}
 use Prim.Native.Nat.{ℕ, zero, suc, _-_, _<_, _≤_, min}
 use native.Mathlib.Omega.{arith}
-use borrow.Author.Tests.{lt-ltb, ltb-true, ltb-false}
-use lib.Dec.{ltb}
+use borrow.Author.Tests.{eq-eqb, lt-ltb, ltb-true, ltb-false}
+use lib.Dec.{eqb, ltb}
 use Rattle.laws.specs.Choice.{pick-true, pick-false, allOf, both-true, true-both, both-false}
 use Rattle.rules.specs.Matching.{counterpart, tradePrice, tradeWith, withLots, stays, Swept, untouched, afterTrade, sweep}
 use Rattle.rules.specs.declared.Order.{Order}
@@ -132,3 +132,16 @@ swept-each t test fit Last each =
     let b = both-true (fit o) (allOf fit os) h in
     let e = each o left last some met (b .0) l in
     true-both (test (tradeWith t o left last)) (allOf test (s .trades)) (e .0) (ih (e .1) (b .1)))
+
+-- all of one contract
+abbrev pub ofContract : ℕ → Trade → Bool
+ofContract c t = eqb (t .contract) c
+
+pub swept-contract : (t : Taker) (left last : ℕ) (os : List Order) → allOf (ofContract (t .contract)) (sweep t left last os .trades) ≡ true
+unfolding allOf tradeWith
+swept-contract t =
+    sweep-ind t (λ left last os s. allOf (ofContract (t .contract)) (s .trades) ≡ true)
+    (λ left last os w. refl)
+    (λ left last o os some met short. true-both (eqb (t .contract) (t .contract)) true (eq-eqb (t .contract) (t .contract) refl) refl)
+    (λ left last o os s some met enough ih. true-both (eqb (t .contract) (t .contract)) (allOf (ofContract (t .contract)) (s .trades))
+    (eq-eqb (t .contract) (t .contract) refl) ih)

@@ -1,5 +1,5 @@
 -- A command's record: kinds, flags, fields that are not used (document 01, "The day file"). Assumes nothing.
-use mathlib.Core.Bool.{Bool, _&&_}
+use mathlib.Core.Bool.{Bool, _&&_, _||_}
 use mathlib.Core.List.{List, [], _∷_}
 use Prim.Native.Nat.{ℕ, _/_, _%_, _^_}
 use lib.Dec.{leb, ltb, eqb}
@@ -131,5 +131,43 @@ isInsert command = eqb (kindNumber command) 3
 abbrev pub isSettle : Command → Bool
 isSettle command = eqb (kindNumber command) 7
 
+abbrev pub isQuote : Command → Bool
+isQuote command = eqb (kindNumber command) 8
+
 abbrev pub isChange : Command → Bool
 isChange command = eqb (kindNumber command) 9
+
+-- a deposit or a withdrawal
+abbrev pub isPayment : Command → Bool
+isPayment command = eqb (kindNumber command) 1 || eqb (kindNumber command) 2
+
+-- ---- the two fields in which a command names a contract and an account, by number as given
+
+-- a field for a number: a command's kind does not use it, or it holds the number
+pub data Field : Type 0 where
+  unused : Field
+  holds : ℕ → Field
+
+abbrev pub contractField : Command → Field
+contractField Malformed = unused
+contractField (Deposit account amount) = unused
+contractField (Withdraw account amount) = unused
+contractField (Insert o) = holds (o .contract)
+contractField (Cancel account contract operator number) = holds contract
+contractField (Pull account contract operator) = holds contract
+contractField (Phase contract phase) = holds contract
+contractField Settle = unused
+contractField (Quote account contract lots buy sell) = holds contract
+contractField (Change account contract number lots price) = holds contract
+
+abbrev pub accountField : Command → Field
+accountField Malformed = unused
+accountField (Deposit account amount) = holds account
+accountField (Withdraw account amount) = holds account
+accountField (Insert o) = holds (o .account)
+accountField (Cancel account contract operator number) = holds account
+accountField (Pull account contract operator) = holds account
+accountField (Phase contract phase) = unused
+accountField Settle = unused
+accountField (Quote account contract lots buy sell) = holds account
+accountField (Change account contract number lots price) = holds account

@@ -20,7 +20,7 @@ use Rattle.rules.specs.declared.Trade.{Trade}
 use Rattle.rules.specs.declared.Command.{Command}
 use Rattle.rules.specs.declared.Command.the-variants.{Settle}
 
--- ---- a run: "each getting the state that the last one left"
+-- ---- a run: "Each command gets the state that the last one left, and nothing else writes to it."
 
 unfoldable pub run : Memory → List Command → Memory
 run m [] = m
@@ -58,7 +58,7 @@ paidIn a m cs = sumOf (inTo a) (movesOf m cs)
 unfoldable pub paidOut : ℕ → Memory → List Command → ℕ
 paidOut a m cs = sumOf (outOf a) (movesOf m cs)
 
--- ---- "The trades are those the rules yield for the list."
+-- ---- "The trades are those that the second condition's rules yield for the list."
 
 unfoldable pub madeBy : Move → List Trade
 madeBy (paysIn account amount) = []
@@ -155,8 +155,8 @@ pub record Loaded (m : Memory) : Type 0 where
 
 -- ---- the claim
 
--- "what its trades sold for - what they cost + its net holding at that day's settlement price, trades and holdings times the
--- multiplier"; the settlement is that of the state `found`
+-- "plus what its trades sold for minus what they cost, plus its net holding at that day's settlement price, trades and holdings times the
+-- contract's multiplier"; the settlement is that of the state `found`
 unfoldable pub worth : Memory → Exchange → ℕ → List Trade → (ℕ → ℤ) → ℤ
 worth m found a ts net =
     sumTo (contractsOf m)
@@ -168,12 +168,13 @@ pub record EndsSettled (m : Memory) (cs before : List Command) : Type 0 where
   pub accepted : isAccepted (run m before) Settle ≡ true
 
 pub record Condition3 (start : Start) (m : Memory) (cs : List Command) (m′ : Memory) : Type 0 where
-  -- "all balances together equal money paid in minus money paid out, opening money counted as paid in"
+  -- "all balances together equal the money paid in minus the money paid out, opening money counted as paid in"
   pub together :
       sumTo (accountsOf m) (balanceIn m′)
       ≡ (sumTo (accountsOf m) (balanceIn m) +ℤ sumTo (accountsOf m) (λ a. pos (paidIn a m cs))) -ℤ sumTo (accountsOf m) (λ a. pos (paidOut a m cs))
-  -- "after a list that ends with an accepted settlement, each account's balance equals opening money + accepted deposits -
-  -- accepted withdrawals + what its trades sold for - what they cost + its net holding at that day's settlement price"
+  -- "After every such list that ends with an accepted settlement, each account's balance equals its opening money plus accepted deposits
+  -- minus accepted withdrawals, plus what its trades sold for minus what they cost, plus its net holding at that day's settlement price,
+  -- trades and holdings times the contract's multiplier."
   pub each :
       (before : List Command) → EndsSettled m cs before → (a : ℕ) → a < accountsOf m →
       balanceIn m′ a

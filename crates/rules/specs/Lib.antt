@@ -5,7 +5,6 @@ pub mod Holdings
 pub mod WellFormed
 pub mod Command
 pub mod Matching
-pub mod Between
 pub mod Auction
 pub mod Margin
 pub mod Settlement
@@ -15,9 +14,13 @@ pub mod Step
 pub mod Change
 pub mod Quote
 pub mod Kinds
+pub mod Fairness
+pub mod AuctionFairness
+pub mod FairCommands
 pub mod Memory
 pub mod Side
 pub mod Condition3
+pub mod Touches
 pub mod DayFile
 pub mod Lines
 pub mod Examples
@@ -27,6 +30,7 @@ pub mod ChangeExamples
 pub mod CodeExamples
 pub mod Condition3Examples
 pub mod DayFileExamples
+pub mod FairnessExamples
 pub mod FillOrKillExamples
 pub mod MarginExamples
 pub mod MatchingExamples
@@ -35,4 +39,5 @@ pub mod ProfitExamples
 pub mod QuoteExamples
 pub mod SideExamples
 pub mod StepExamples
+pub mod TouchExamples
 pub mod WellFormedExamples

@@ -1,7 +1,7 @@
 -- Quotes worked out by hand (document 02, ticket 7): the code of the buy and of the sell at the ends of each range and where two refusals
 -- hold at once, what the two orders do and what is answered, and a place that is in use only between the steps. Four
 -- tables, a statement each. Assumes nothing.
-use mathlib.Core.Bool.{true}
+use mathlib.Core.Bool.{true, false}
 use mathlib.Core.List.{List, [], _∷_, _++_}
 use mathlib.Core.Path.{_≡_, refl}
 use Prim.Native.Nat.{ℕ, _+_, _*_, _^_}
@@ -12,9 +12,9 @@ use Rattle.laws.specs.Sums.{sumOf}
 use Rattle.laws.specs.Tabulate.{tabulate}
 use Rattle.areas.specs.Lists.{over, padded}
 use Rattle.areas.specs.Records.{decode, encode, records, store}
-use Rattle.rules.specs.Answers.{conditionsRefused, fillableLots, firstOf, holdingRefused, listingOf, mark, moneyRefused, numbered, orderRefusals, priceRefusedBy, restingOrder, takerOf, tradesNeeded, tradesRefused, lotsRefused, tradesAgainst}
+use Rattle.rules.specs.Answers.{conditionsRefused, dayLimitOrder, fillableLots, firstOf, holdingRefused, listingOf, mark, moneyRefused, noSuchOrder, numbered, ofAnother, orderRefusals, priceRefusedBy, restingOrder, takerOf, tradesNeeded, tradesRefused, lotsRefused, tradesAgainst}
 use Rattle.rules.specs.Bounds.{allowedToday, auction, closed, continuous, dayHigh, dayLow, noTrading, onTick, preOpen}
-use Rattle.rules.specs.Change.{asked, changed, isSell, lessened, losesPlace, oldOrder, placeKept, unchanged}
+use Rattle.rules.specs.Change.{arriving, asked, changeRefusals, changed, gone, isSell, lessened, losesPlace, oldOrder, placeKept, placeLost, reentered, unchanged}
 use Rattle.rules.specs.Command.{commandOf, quoteOf, zeros}
 use Rattle.rules.specs.DayFile.{accountPlace, accountSound, balanceFrom, contractPlace, contractsIn, makerFrom, u16At, u32At, u64At, u8At}
 use Rattle.rules.specs.Examples.{Row, _gives_, allRight}
@@ -25,9 +25,10 @@ use Rattle.rules.specs.Margin.{chargeOf, chargedLots, chargedTo}
 use Rattle.rules.specs.Matching.{enter, fillable, lastPrice, meets, methodOf, middle, pairedPrice, remainder, restIn, restLots, restedLots, stays, sweep, tradePrice, tradeWith, tradedLots}
 use Rattle.rules.specs.Memory.{Memory, exchangeOf, listingIn, memory, orderWords, put, putAccounts, putQueue, putQueues, putState, putTrades, queueIn, recordedTrades, stepIn}
 use Rattle.rules.specs.Quote.{Offered, half, offered, quoteRefusals, quoteTrades, quoted, withBuy, withSell, withoutQuote}
-use Rattle.rules.specs.Step.{Effect, enteredOf, exchangeAfter, listingAfter, without}
+use Rattle.rules.specs.Step.{Effect, cancelled, enteredOf, exchangeAfter, inserted, listingAfter, removed, without}
 use Rattle.rules.specs.declared.Account.{Account}
-use Rattle.rules.specs.declared.Command.the-variants.{Quote}
+use Rattle.rules.specs.declared.Command.{Command}
+use Rattle.rules.specs.declared.Command.the-variants.{Change, Quote}
 use Rattle.rules.specs.declared.Contract.{Contract}
 use Rattle.rules.specs.declared.Order.{Order}
 use Rattle.rules.specs.declared.Trade.{Trade}
@@ -166,20 +167,24 @@ quote-codes = refl
 -- ---- effects. By ticks of 1. Account 1's quote is half filled: 2 lots to buy at 104 (number 1), 5 to sell at 108 (number 2); it bids
 -- for 1 at 102 beside it (number 3) and offers 1 at 116 (number 4). Account 2 bids 4 at 101 (number 5) and offers 4 at 115 (number 6).
 
-book : Exchange
-book =
+-- with account 2 no maker, and with account 2 one whose two orders are its quote
+bookOf : ℕ → Exchange
+bookOf second =
     record {
       listings = record {
         contract = contract 1 1_000 continuous;
-        buys = order 1 104 0 2 1 ∷ order 3 102 0 1 0 ∷ order 5 101 1 4 0 ∷ [];
-        sells = order 2 108 0 5 1 ∷ order 6 115 1 4 0 ∷ order 4 116 0 1 0 ∷ [];
+        buys = order 1 104 0 2 1 ∷ order 3 102 0 1 0 ∷ order 5 101 1 4 second ∷ [];
+        sells = order 2 108 0 5 1 ∷ order 6 115 1 4 second ∷ order 4 116 0 1 0 ∷ [];
       } ∷ [];
-      accounts = account 1 1_000_000 0 0 ∷ account 0 1_000_000 0 0 ∷ [];
+      accounts = account 1 1_000_000 0 0 ∷ account second 1_000_000 0 0 ∷ [];
       trades = [];
       next = 7;
       nextstamp = 9;
       settlements = 0;
     }
+
+book : Exchange
+book = bookOf 0
 
 -- account 1 quotes so many lots
 at : ℕ → ℕ → ℕ → Offered
@@ -207,9 +212,17 @@ buyMarks x = sumOf (λ o. o .quote) (listingAt x 0 .buys)
 sellMarks : Exchange → ℕ
 sellMarks x = sumOf (λ o. o .quote) (listingAt x 0 .sells)
 
--- an order of the quote changed to other lots
+-- an order of the quote changed to other lots, at another price
 fewer : ℕ → ℕ → ℕ → Exchange
 fewer number lots price = lastOf book (changed book (asked 1 1 number lots price) .stages)
+
+-- account 2 sells one lot at 104, to open
+partly : Exchange
+partly = lastOf book (inserted book (dayLimitOrder 2 1 true false 1 104) .stages)
+
+-- account 1 quotes beside the quote of account 2
+beside : Exchange
+beside = lastOf (bookOf 1) (quoted (bookOf 1) (at 5 105 107) .stages)
 
 pub effects : List Row
 effects =
@@ -259,10 +272,21 @@ effects =
     ∷ (buyMarks (fewer 1 1 104) gives 0)
     ∷ (sellMarks (fewer 1 1 104) gives 1)
     ∷ (buyMarks (fewer 1 2 104) gives 1)
+    -- so do more lots and another price, with which it loses its place
+    ∷ (buyMarks (fewer 1 3 104) gives 0)
+    ∷ (buyMarks (fewer 1 2 103) gives 0)
+    ∷ (sellMarks (fewer 2 6 108) gives 0)
+    -- an order of the quote that is filled in part stays marked
+    ∷ (getD (listingAt partly 0 .buys) 0 noOrder .lots gives 1)
+    ∷ (buyMarks partly gives 1)
+    -- another maker's quote stands
+    ∷ (length (listingAt beside 0 .buys) gives 3)
+    ∷ (buyMarks beside gives 2)
+    ∷ (sellMarks beside gives 2)
     ∷ []
 
 pub quote-effects : allRight effects ≡ true
-unfolding allRight effects order account contract book at effect after buyAt sellAt tradeAt′ buyMarks sellMarks fewer accountAt afterLeg bestPrice bookLeg bookTrade bookTrades changed enter enteredOf exchangeAfter half isSell lastPrice lessened listingAfter listingAt listingOf losesPlace lotsWhere meets methodOf middle numbered oldOrder pairedPrice placeKept quoteTrades quoted remainder restIn restLots restedLots restingOrder stays sumOf sweep takerOf tradePrice tradeWith tradedLots unchanged withBuy withSell without withoutQuote
+unfolding allRight effects order account contract bookOf book at effect after buyAt sellAt tradeAt′ buyMarks sellMarks fewer partly beside accountAt afterLeg arriving bestPrice bookLeg bookTrade bookTrades changed enter enteredOf exchangeAfter gone half inserted isSell lastPrice lessened listingAfter listingAt listingOf losesPlace lotsWhere meets methodOf middle noSuchOrder numbered oldOrder pairedPrice placeKept placeLost quoteTrades quoted reentered remainder restIn restLots restedLots restingOrder stays sumOf sweep takerOf tradePrice tradeWith tradedLots unchanged withBuy withSell without withoutQuote
 quote-effects = refl
 
 -- ---- "a place in use only between the steps is set to zero". Account 2 bids for 1 at 100 and 1 at 99; account 1 quotes 2 lots at 90 and
@@ -280,28 +304,42 @@ lying =
       accountcount = 2;
       tradecount = 0;
       next = 3;
-      nextstamp = 3;
+      nextstamp = 4;
       settlements = 0;
     }
     (orderWords (order 1 100 1 1 0) ++ (orderWords (order 2 99 1 1 0) ++ replicate 14 7)) (replicate 14 7) (replicate 18 7)
 
--- the words of the buys after it, those at one place added up
+-- the words of the buys after a command, those at one place added up
+wordsAt : Command → ℕ → ℕ
+wordsAt command place = sumOf (λ i. getD (stepIn lying command .memory .buys) (7 * place + i) 0) (tabulate 7 (λ i. i))
+
 left : ℕ → ℕ
-left place = sumOf (λ i. getD (stepIn lying (Quote 1 1 2 90 98) .memory .buys) (7 * place + i) 0) (tabulate 7 (λ i. i))
+left place = wordsAt (Quote 1 1 2 90 98) place
 
 pub places : List Row
 places =
     (getD (stepIn lying (Quote 1 1 2 90 98) .memory .state .buycounts) 0 9 gives 1)
-    -- the buy: 90, number 3, place 0, 2 lots, time stamp 3, marked
-    ∷ (left 0 gives 99)
+    -- the buy: 90, number 3, place 0, 2 lots, time stamp 4, marked
+    ∷ (left 0 gives 100)
     ∷ (left 1 gives 0)
     ∷ (left 2 gives 0)
     -- room that no step used
     ∷ (left 3 gives 49)
+    -- two numbers and two time stamps are taken, and written
+    ∷ (stepIn lying (Quote 1 1 2 90 98) .memory .state .next gives 5)
+    ∷ (stepIn lying (Quote 1 1 2 90 98) .memory .state .nextstamp gives 6)
+    -- a change to zero lots: the second bid moves up (99, number 2, place 1, a lot, time stamp 2), its place is set to zero, room is not
+    ∷ (wordsAt (Change 2 1 1 0 0) 0 gives 105)
+    ∷ (wordsAt (Change 2 1 1 0 0) 1 gives 0)
+    ∷ (wordsAt (Change 2 1 1 0 0) 2 gives 49)
+    -- a change that loses its place: behind the second bid, at 98 with time stamp 4; no place is set to zero
+    ∷ (wordsAt (Change 2 1 1 1 98) 0 gives 105)
+    ∷ (wordsAt (Change 2 1 1 1 98) 1 gives 105)
+    ∷ (wordsAt (Change 2 1 1 1 98) 2 gives 49)
     ∷ []
 
 pub quote-places : allRight places ≡ true
-unfolding allRight places order account contract lying left absent accountAt afterLeg allowedToday bestPrice bookLeg bookTrade bookTrades chargeOf chargedLots chargedTo codeOf conditionsRefused dayHigh dayLow decide decode encode enter enteredOf exchangeAfter exchangeOf fillable fillableLots firstOf half holdingAt holdingRefused kindOf lastPrice listingAfter listingAt listingIn listingOf lotsWhere meets methodOf middle moneyRefused onTick orderRefusals over lotsRefused tradesAgainst padded pairedPrice priceRefusedBy put putAccounts putQueue putQueues putState putTrades queueIn quoteRefusals quoted records recordedTrades remainder restIn restLots restedLots resting stays stepIn store sumOf sweep tabulate takerOf tradePrice tradeWith tradedLots tradesNeeded tradesRefused withBuy withSell without withoutQuote
+unfolding allRight places order account contract lying wordsAt left absent accountAt afterLeg allowedToday arriving bestPrice bookLeg bookTrade bookTrades cancelled changeRefusals changed chargeOf chargedLots chargedTo codeOf conditionsRefused dayHigh dayLow decide decode encode enter enteredOf exchangeAfter exchangeOf fillable fillableLots firstOf gone half holdingAt holdingRefused isSell kindOf lastPrice listingAfter listingAt listingIn listingOf losesPlace lotsWhere meets methodOf middle moneyRefused noSuchOrder numbered ofAnother oldOrder onTick orderRefusals over lotsRefused tradesAgainst padded pairedPrice placeLost priceRefusedBy put putAccounts putQueue putQueues putState putTrades queueIn quoteRefusals quoted records recordedTrades reentered remainder removed restIn restLots restedLots resting restingOrder stays stepIn store sumOf sweep tabulate takerOf tradePrice tradeWith tradedLots tradesNeeded tradesRefused withBuy withSell without withoutQuote
 quote-places = refl
 
 -- ---- "Bit 63 of an account's opening balance in the file marks a maker." A file of one account whose balance has these first and last

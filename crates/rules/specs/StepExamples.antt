@@ -1,4 +1,4 @@
--- What a deposit, a pull, a settlement and a trade of an account with itself leave, worked out by hand. One table, one statement, as in
+-- What a deposit, a pull, a change of state, a settlement and a trade of an account with itself leave, worked out by hand. One table, one statement, as in
 -- Examples.antt. Assumes nothing.
 use mathlib.Core.Bool.{true}
 use mathlib.Core.List.{List, [], _∷_}
@@ -8,14 +8,15 @@ use lib.IntN.{pos}
 use lib.ListN.{length, getD}
 use Rattle.laws.specs.Sums.{sumOf, sumTo}
 use Rattle.laws.specs.Tabulate.{tabulate}
-use Rattle.rules.specs.Bounds.{closed}
+use Rattle.rules.specs.Auction.{matchOf}
+use Rattle.rules.specs.Bounds.{closed, continuous}
 use Rattle.rules.specs.Examples.{Row, _gives_, allRight, up}
 use Rattle.rules.specs.Exchange.{Exchange, accountAt, contractAt, holderAt, holdingAt, listingAt, lotsWhere, noOrder}
 use Rattle.rules.specs.Holdings.{afterLeg, bookLeg, bookTrade}
 use Rattle.rules.specs.Kinds.{lastOf}
 use Rattle.rules.specs.Matching.{tradedLots}
 use Rattle.rules.specs.Settlement.{afterDayLeg, afterLegs, closingProfit, dayOf, dayStart, firstLots, gain, holdingGain, holdingProfit, legs, only, otherLots, priceFrom, settled, settledAccount, settledContract, settledListing, settlementPrice, tradedValue, tradesIn, weightedPrice}
-use Rattle.rules.specs.Step.{Effect, deposited, paid, pulled, removed, without}
+use Rattle.rules.specs.Step.{Effect, deposited, exchangeMatched, paid, phaseChanged, pulled, removed, without}
 use Rattle.rules.specs.declared.Account.{Account}
 use Rattle.rules.specs.declared.Holding.{Holding}
 use Rattle.rules.specs.declared.Order.{Order}
@@ -44,7 +45,7 @@ state =
       accounts = account 0 3 ∷ account 3 0 ∷ account 0 0 ∷ [];
       trades = trade ∷ [];
       next = 6;
-      nextstamp = 6;
+      nextstamp = 7;
       settlements = 4;
     }
 
@@ -91,10 +92,13 @@ table =
     ∷ (holding (settled state) 0 .startshort gives 3)
     ∷ (holding (settled state) 1 .startlong gives 3)
     ∷ (holding (settled state) 1 .long gives 3)
+    -- a change of state takes no order number and no time stamp
+    ∷ (after (phaseChanged state 0 continuous) .next gives 6)
+    ∷ (after (phaseChanged state 0 continuous) .nextstamp gives 7)
     -- the buyer's leg is booked first, so that the close finds the lots just bought, and nothing is left
     ∷ (holdingAt itself 0 0 .long gives 0)
     ∷ []
 
 pub step-examples : allRight table ≡ true
-unfolding allRight table order account trade state after balance holding itself up accountAt afterDayLeg afterLeg afterLegs bookLeg bookTrade closingProfit dayOf dayStart deposited firstLots gain holdingAt holdingGain holdingProfit legs listingAt lotsWhere only otherLots paid priceFrom pulled removed settled settledAccount settledContract settledListing settlementPrice sumOf sumTo tabulate tradedLots tradedValue tradesIn weightedPrice without
+unfolding allRight table order account trade state after balance holding itself up accountAt afterDayLeg afterLeg afterLegs bookLeg bookTrade closingProfit dayOf dayStart deposited exchangeMatched firstLots gain holdingAt holdingGain holdingProfit legs listingAt lotsWhere matchOf only otherLots paid phaseChanged priceFrom pulled removed settled settledAccount settledContract settledListing settlementPrice sumOf sumTo tabulate tradedLots tradedValue tradesIn weightedPrice without
 step-examples = refl

@@ -10,7 +10,7 @@ use Rattle.laws.specs.Choice.{all, allOf}
 use Rattle.laws.specs.Sums.{sumOf}
 use Rattle.rules.specs.Bounds.{allowedToday, dayHigh, dayLow, onTick, termsInRange, tickMultiple, auction, closed, continuous, noTrading, preOpen}
 use Rattle.rules.specs.Examples.{Row, _gives_, allRight}
-use Rattle.rules.specs.Exchange.{Exchange, accountAt, holdingAt, listingAt, lotsWhere, resting}
+use Rattle.rules.specs.Exchange.{Exchange, Listing, accountAt, holdingAt, listingAt, lotsWhere, noHolding, resting}
 use Rattle.rules.specs.Holdings.{afterLeg, bookLeg, bookTrade, bookTrades, legCovered, neverBelowZero, sameHoldings, sameLots, startOfDay}
 use Rattle.rules.specs.Answers.{mark}
 use Rattle.rules.specs.Memory.{Memory, memory, countsInRange, hasRoom}
@@ -69,6 +69,16 @@ test last b s t short next balance = mark (wellFormedContents (asked continuous 
 testIn : ℕ → List Order → ℕ
 testIn phase b = mark (wellFormedContents (asked phase 110 b sells trades 3 8 (pos 0)))
 
+-- a buy of one lot at 108 of the account at a place
+of : ℕ → Order
+of account = record { price = 108; number = 3; account = account; lots = 1; close = 0; stamp = 3; quote = 0 }
+
+-- a recorded trade by contract, buyer, seller, buy order and sell order, 1 where it keeps its ranges
+kept : ℕ → ℕ → ℕ → ℕ → ℕ → ℕ
+kept contract buyer seller buyorder sellorder =
+    mark (tradeInRange (asked continuous 110 [] [] [] 0 8 (pos 0))
+    record { contract = contract; price = 110; lots = 3; buyorder = buyorder; sellorder = sellorder; buyer = buyer; seller = seller; buyclose = 0; sellclose = 0 })
+
 pub table : List Row
 table =
     (test 130 buys sells trades 3 8 (negℤ (pos (10 ^ 18 + 3 * 10 ^ 15))) gives 1)
@@ -96,23 +106,37 @@ table =
     ∷ (test 110 (stamped 4 3 ∷ stamped 3 4 ∷ []) sells trades 3 8 (pos 0) gives 1)
     ∷ (test 110 (stamped 3 4 ∷ stamped 4 3 ∷ []) sells trades 3 8 (pos 0) gives 0)
     ∷ (test 110 (stamped 3 5 ∷ []) sells trades 3 8 (pos 0) gives 0)
+    -- an order of an account that is not there; one of the last account
+    ∷ (test 110 (of 2 ∷ []) sells trades 3 8 (pos 0) gives 0)
+    ∷ (test 110 (of 1 ∷ []) sells trades 3 8 (pos 0) gives 1)
     -- a trade at a price past the band, of no lots, of one order with itself
     ∷ (test 110 buys sells (trade 122 3 2 ∷ []) 3 8 (pos 0) gives 0)
     ∷ (test 110 buys sells (trade 110 3 2 ∷ trade 110 0 2 ∷ []) 3 8 (pos 0) gives 0)
     ∷ (test 110 buys sells (trade 110 3 1 ∷ []) 3 8 (pos 0) gives 0)
+    -- a trade whose order has the next number, which none has yet; in a contract that is not there, by a buyer or a seller that is not
+    ∷ (test 110 buys sells (trade 110 3 8 ∷ []) 3 8 (pos 0) gives 0)
+    ∷ (kept 0 1 0 2 1 gives 1)
+    ∷ (kept 0 1 0 2 8 gives 0)
+    ∷ (kept 0 1 0 8 1 gives 0)
+    ∷ (kept 0 1 0 2 0 gives 0)
+    ∷ (kept 1 1 0 2 1 gives 0)
+    ∷ (kept 0 2 0 2 1 gives 0)
+    ∷ (kept 0 1 2 2 1 gives 0)
     -- holdings now that are not the trades replayed
     ∷ (test 110 buys sells trades 2 8 (pos 0) gives 0)
     -- holding and resting opens together past the limit of 10; resting closes past the holding
     ∷ (test 110 (order 3 108 9 0 ∷ []) sells trades 3 8 (pos 0) gives 0)
     ∷ (test 110 buys (order 5 110 8 0 ∷ []) trades 3 8 (pos 0) gives 0)
     ∷ (test 110 buys (order 7 112 3 1 ∷ []) trades 3 8 (pos 0) gives 0)
+    ∷ (test 110 (order 6 106 3 1 ∷ []) sells trades 3 8 (pos 0) gives 1)
+    ∷ (test 110 (order 6 106 4 1 ∷ []) sells trades 3 8 (pos 0) gives 0)
     -- a balance one past its bound, either sign
     ∷ (test 110 buys sells trades 3 8 (pos (10 ^ 18 + 3 * 10 ^ 15 + 1)) gives 0)
     ∷ (test 110 buys sells trades 3 8 (negℤ (pos (10 ^ 18 + 3 * 10 ^ 15 + 1))) gives 0)
     ∷ []
 
 pub well-formed-examples : allRight table ≡ true
-unfolding allRight table contract order stamped trade account asked buys sells trades test testIn all allOf sumOf accountAt afterLeg ahead aheadOfFirst allListed allowedToday balanceInRange bookLeg bookTrade bookTrades contractInRange countersInRange dayHigh dayLow holdingAt heldInRange holdingInRange holdingsInRange legCovered listingAt rangesKept queuesSorted ordersInRange restingInRange lotsWhere neverBelowZero listed onTick orderInRange replays resting sameHoldings sameLots sorted startOfDay termsInRange tickMultiple tradeInRange uncrossed usedOnce wellFormedContents quotes markAllowed queueQuoted listingQuoted markInRange
+unfolding allRight table contract order stamped trade account asked buys sells trades test testIn of kept all allOf sumOf accountAt afterLeg ahead aheadOfFirst allListed allowedToday balanceInRange bookLeg bookTrade bookTrades contractInRange countersInRange dayHigh dayLow holdingAt heldInRange holdingInRange holdingsInRange legCovered listingAt rangesKept queuesSorted ordersInRange restingInRange lotsWhere neverBelowZero listed onTick orderInRange replays resting sameHoldings sameLots sorted startOfDay termsInRange tickMultiple tradeInRange uncrossed usedOnce wellFormedContents quotes markAllowed queueQuoted listingQuoted markInRange
 well-formed-examples = refl
 
 -- ---- counts and room, on a state as it lies, and the replay of closes
@@ -157,9 +181,60 @@ marked stamp quote = record { price = 110; number = 1; account = 0; lots = 1; cl
 counting : ℕ → ℕ → Exchange
 counting next nextstamp = record { listings = []; accounts = []; trades = []; next = next; nextstamp = nextstamp; settlements = 0 }
 
+-- the terms of a contract, 1 where they keep their ranges
+terms : ℕ → ℕ → ℕ → ℕ → ℕ → ℕ → ℕ → ℕ
+terms multiplier tick reference band limit rate method =
+    mark (contractInRange record { multiplier = multiplier; tick = tick; reference = reference; band = band; limit = limit; rate = rate; method = method; phase = continuous; last = tick })
+
+-- a holding at the start of the day, against a limit of 10
+starting : ℕ → ℕ → ℕ
+starting long short = mark (heldInRange record { long = 0; short = 0; startlong = long; startshort = short } 10 0 0 0 0)
+
+-- an order in each of two contracts: the numbers and the time stamps of the two
+across : ℕ → ℕ → ℕ → ℕ → ℕ
+across number stamp number′ stamp′ =
+    mark (wellFormedContents record {
+      listings = resting′ number stamp ∷ resting′ number′ stamp′ ∷ [];
+      accounts = record { balance = pos 0; maker = 0; holdings = noHolding ∷ noHolding ∷ [] } ∷ [];
+      trades = [];
+      next = 9;
+      nextstamp = 9;
+      settlements = 0;
+    })
+  where
+    resting′ : ℕ → ℕ → Listing
+    resting′ number stamp =
+        record { contract = contract continuous 110; buys = record { price = 108; number = number; account = 0; lots = 1; close = 0; stamp = stamp; quote = 0 } ∷ []; sells = [] }
+
 pub laid : List Row
 laid =
-    (mark (countsInRange (counted 64)) gives 1)
+    -- each parameter at the ends of its range, and past them
+    (terms 1 1 1 1 1 1 0 gives 1)
+    ∷ (terms 1_000 1_000 1_000_000 1_000_000 100_000 10_000 2 gives 1)
+    ∷ (terms 0 1 1 1 1 1 0 gives 0)
+    ∷ (terms 1_001 1 1 1 1 1 0 gives 0)
+    ∷ (terms 1 1_001 1_001 1_001 1 1 0 gives 0)
+    ∷ (terms 1 2 3 2 1 1 0 gives 0)
+    ∷ (terms 1 2 2 3 1 1 0 gives 0)
+    ∷ (terms 1 2 0 2 1 1 0 gives 0)
+    ∷ (terms 1 2 2 0 1 1 0 gives 0)
+    ∷ (terms 1 1 1_000_001 1 1 1 0 gives 0)
+    ∷ (terms 1 1 1 1_000_001 1 1 0 gives 0)
+    ∷ (terms 1 1 1 1 0 1 0 gives 0)
+    ∷ (terms 1 1 1 1 100_001 1 0 gives 0)
+    ∷ (terms 1 1 1 1 1 0 0 gives 0)
+    ∷ (terms 1 1 1 1 1 10_001 0 gives 0)
+    ∷ (terms 1 1 1 1 1 1 3 gives 0)
+    -- starting holdings at the limit, and past it
+    ∷ (starting 10 10 gives 1)
+    ∷ (starting 11 0 gives 0)
+    ∷ (starting 0 11 gives 0)
+    -- numbers and time stamps are used once over all contracts
+    ∷ (across 1 2 2 1 gives 1)
+    ∷ (across 1 1 1 2 gives 0)
+    ∷ (across 1 1 2 1 gives 0)
+    -- counts and room
+    ∷ (mark (countsInRange (counted 64)) gives 1)
     ∷ (mark (countsInRange (counted 65)) gives 0)
     -- 64 orders of seven words, 1,024 trades of nine, and a word less
     ∷ (mark (hasRoom (lying 448 9_216)) gives 1)
@@ -182,7 +257,7 @@ laid =
     ∷ []
 
 pub laid-examples : allRight laid ≡ true
-unfolding allRight laid contract account counted lying replayed marked counting all sumOf accountAt afterLeg allowedToday bookLeg bookTrade bookTrades countersInRange countsInRange dayHigh dayLow hasRoom holdingAt legCovered neverBelowZero onTick orderInRange replays sameHoldings sameLots startOfDay
+unfolding allRight laid contract account terms starting across counted lying replayed marked counting all allOf sumOf ahead aheadOfFirst allListed balanceInRange contractInRange heldInRange holdingInRange holdingsInRange listed listingAt listingQuoted lotsWhere markAllowed markInRange ordersInRange queueQuoted queuesSorted quotes rangesKept resting restingInRange sorted termsInRange tickMultiple tradeInRange uncrossed usedOnce wellFormedContents accountAt afterLeg allowedToday bookLeg bookTrade bookTrades countersInRange countsInRange dayHigh dayLow hasRoom holdingAt legCovered neverBelowZero onTick orderInRange replays sameHoldings sameLots startOfDay
 laid-examples = refl
 
 -- ---- quote marks: accounts 1 and 2, each long 2 lots, makers or not

@@ -13,7 +13,9 @@ use crate::MAX_TRADES;
 // A margin rate is so many parts of this.
 pub const RATE_PARTS: u64 = 10000;
 
-// The words of an order that hold its remaining lots and its quote mark.
+// The words of an order that hold its account, its remaining lots and its quote mark.
+pub const ACCOUNT_WORD: usize = 2;
+
 pub const LOTS_WORD: usize = 3;
 
 pub const QUOTE_WORD: usize = 6;

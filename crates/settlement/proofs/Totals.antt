@@ -7,17 +7,18 @@ use native.Mathlib.Nat.{mul-le-mul-left}
 use native.Mathlib.Numerals.{add-one}
 use native.Mathlib.Omega.{arith}
 use lib.IntN.{ℤ, pos, _+ℤ_, _*ℤ_, *ℤ-comm}
-use lib.ListN.{getD}
 use mir.Syntax.{w64}
 use mir.Val.{SFits, toZ, ofZ}
 use Rattle.laws.specs.Bound.{Within, within-le, within-zero, within-add, within-times}
 use Rattle.laws.specs.Sums.{sumTo, sumTo-ext}
 use Rattle.laws.proofs.Signed.{back, total-fits, total-back}
 use Rattle.rules.specs.Memory.{recordedTrades}
+use Rattle.rules.specs.declared.Account.{Account}
 use Rattle.rules.specs.declared.State.{State}
 use Rattle.dayprofit.specs.Slots.{SumsAre, UsedAre, Rooms, DayFrom}
 use Rattle.dayprofit.proofs.Gains.{Summed, day-small, closing-by-slots, holding-by-slots}
-use Rattle.settlement.specs.Settling.{contractIn, holdingIn, dayIn, closingTo, holdingTo, closingIn, holdingPart, Totallable, TotalFrom, AllDue, AllPayable}
+use Rattle.settlement.specs.Settling.{accountIn, contractIn, holdingIn, dayIn, closingTo, holdingTo, pricedIn, termsOf, priceOf, heldBy, closingIn, holdingPart, Totallable, TotalFrom, AllDue, AllPayable}
+use Rattle.settlement.specs.declared.balances.Priced.{Priced}
 use Rattle.dayprofit.specs.declared.profit.Profit.{Profit}
 
 -- a signed total t, as its bits, of the first c values of f, each of at most 4 x 10^15
@@ -60,56 +61,56 @@ module _ (k : ℕ) (z : ℤ) (h : k ≤ 1_000) (w : Within 4_000_000_000_000 z) 
 
 -- ---- one account's closing and holding profit, from the sums of the day's legs
 
-module _ (s : State) (closed closes opened opens used prices : List ℕ) (a : ℕ) where
+module _ (holder : Account) (p : Priced) (closed closes opened opens used : List ℕ) (a : ℕ) where
   abbrev closingTerm : ℕ → ℤ
-  closingTerm c = pos (contractIn s c .multiplier) *ℤ closingIn s closed closes opened opens used a c
+  closingTerm c = pos (termsOf p c .multiplier) *ℤ closingIn holder p closed closes opened opens used a c
 
   abbrev holdingTerm : ℕ → ℤ
-  holdingTerm c = pos (contractIn s c .multiplier) *ℤ holdingPart s closed closes opened opens used prices a c
+  holdingTerm c = pos (termsOf p c .multiplier) *ℤ holdingPart holder p closed closes opened opens used a c
 
-pub record Totalling (s : State) (closed closes opened opens used prices : List ℕ) (a gained held c : ℕ) : Type 0 where
-  pub within : c ≤ s .contractcount
-  pub closing : Adding (closingTerm s closed closes opened opens used prices a) gained c
-  pub holding : Adding (holdingTerm s closed closes opened opens used prices a) held c
+pub record Totalling (holder : Account) (p : Priced) (closed closes opened opens used : List ℕ) (a gained held c : ℕ) : Type 0 where
+  pub within : c ≤ p .count
+  pub closing : Adding (closingTerm holder p closed closes opened opens used a) gained c
+  pub holding : Adding (holdingTerm holder p closed closes opened opens used a) held c
 
-module _ (s : State) (closed closes opened opens used prices : List ℕ) (a : ℕ) where
-  pub totalling-none : Totalling s closed closes opened opens used prices a 0 0 0
+module _ (holder : Account) (p : Priced) (closed closes opened opens used : List ℕ) (a : ℕ) where
+  pub totalling-none : Totalling holder p closed closes opened opens used a 0 0 0
   totalling-none = record { within = omega arith; closing = adding-none _; holding = adding-none _ }
 
-module _ {s : State} {closed closes opened opens used prices : List ℕ} {a gained held c : ℕ} (g : Totallable s closed closes opened opens used prices a)
-    (w : Totalling s closed closes opened opens used prices a gained held c) where
-  module _ (h : c < s .contractcount) {p : Profit}
-      (q : DayFrom closed closes opened opens used a c (contractIn s c .reference) (holdingIn s a c) (getD prices c 0) p) where
-    pub closing-bits : Within 4_000_000_000_000 (toZ w64 (ofZ w64 (p .closing)))
-    closing-bits = bits-small (contractIn s c .multiplier) (p .closing) (g .multiplier c h) (q .closing-small)
+module _ {holder : Account} {p : Priced} {closed closes opened opens used : List ℕ} {a gained held c : ℕ} (g : Totallable holder p closed closes opened opens used a)
+    (w : Totalling holder p closed closes opened opens used a gained held c) where
+  module _ (h : c < p .count) {r : Profit}
+      (q : DayFrom closed closes opened opens used a c (termsOf p c .reference) (heldBy holder c) (priceOf p c) r) where
+    pub closing-bits : Within 4_000_000_000_000 (toZ w64 (ofZ w64 (r .closing)))
+    closing-bits = bits-small (termsOf p c .multiplier) (r .closing) (g .multiplier c h) (q .closing-small)
 
-    pub holding-bits : Within 4_000_000_000_000 (toZ w64 (ofZ w64 (p .holding)))
-    holding-bits = bits-small (contractIn s c .multiplier) (p .holding) (g .multiplier c h) (q .holding-small)
+    pub holding-bits : Within 4_000_000_000_000 (toZ w64 (ofZ w64 (r .holding)))
+    holding-bits = bits-small (termsOf p c .multiplier) (r .holding) (g .multiplier c h) (q .holding-small)
 
     few : c < 4
     few = omega (arith, g .contracts)
 
-    module _ {x : ℤ} (e : x ≡ pos (contractIn s c .multiplier) *ℤ toZ w64 (ofZ w64 (p .closing))) where
-      closing-is : x ≡ closingTerm s closed closes opened opens used prices a c
-      closing-is = multiplied-is (contractIn s c .multiplier) (p .closing) (g .multiplier c h) (q .closing-small) x e ∙ ap (λ (z : ℤ). pos (contractIn s c .multiplier) *ℤ z) (q .closing)
+    module _ {x : ℤ} (e : x ≡ pos (termsOf p c .multiplier) *ℤ toZ w64 (ofZ w64 (r .closing))) where
+      closing-is : x ≡ closingTerm holder p closed closes opened opens used a c
+      closing-is = multiplied-is (termsOf p c .multiplier) (r .closing) (g .multiplier c h) (q .closing-small) x e ∙ ap (λ (z : ℤ). pos (termsOf p c .multiplier) *ℤ z) (q .closing)
 
       closing-part : Within 4_000_000_000_000_000 x
-      closing-part = multiplied-small (contractIn s c .multiplier) (p .closing) (g .multiplier c h) (q .closing-small) x e
+      closing-part = multiplied-small (termsOf p c .multiplier) (r .closing) (g .multiplier c h) (q .closing-small) x e
 
       pub closing-fits : SFits w64 (toZ w64 gained +ℤ toZ w64 (ofZ w64 x))
       closing-fits = adding-fits _ gained c few (w .closing) x closing-is closing-part
 
-      module _ {y : ℤ} (f : y ≡ pos (contractIn s c .multiplier) *ℤ toZ w64 (ofZ w64 (p .holding))) where
-        holding-is : y ≡ holdingTerm s closed closes opened opens used prices a c
-        holding-is = multiplied-is (contractIn s c .multiplier) (p .holding) (g .multiplier c h) (q .holding-small) y f ∙ ap (λ (z : ℤ). pos (contractIn s c .multiplier) *ℤ z) (q .holding)
+      module _ {y : ℤ} (f : y ≡ pos (termsOf p c .multiplier) *ℤ toZ w64 (ofZ w64 (r .holding))) where
+        holding-is : y ≡ holdingTerm holder p closed closes opened opens used a c
+        holding-is = multiplied-is (termsOf p c .multiplier) (r .holding) (g .multiplier c h) (q .holding-small) y f ∙ ap (λ (z : ℤ). pos (termsOf p c .multiplier) *ℤ z) (q .holding)
 
         holding-part : Within 4_000_000_000_000_000 y
-        holding-part = multiplied-small (contractIn s c .multiplier) (p .holding) (g .multiplier c h) (q .holding-small) y f
+        holding-part = multiplied-small (termsOf p c .multiplier) (r .holding) (g .multiplier c h) (q .holding-small) y f
 
         pub holding-fits : SFits w64 (toZ w64 held +ℤ toZ w64 (ofZ w64 y))
         holding-fits = adding-fits _ held c few (w .holding) y holding-is holding-part
 
-        pub totalling-more : Totalling s closed closes opened opens used prices a (ofZ w64 (toZ w64 gained +ℤ toZ w64 (ofZ w64 x))) (ofZ w64 (toZ w64 held +ℤ toZ w64 (ofZ w64 y))) (c + 1)
+        pub totalling-more : Totalling holder p closed closes opened opens used a (ofZ w64 (toZ w64 gained +ℤ toZ w64 (ofZ w64 x))) (ofZ w64 (toZ w64 held +ℤ toZ w64 (ofZ w64 y))) (c + 1)
         totalling-more =
             record {
               within = omega arith;
@@ -117,13 +118,13 @@ module _ {s : State} {closed closes opened opens used prices : List ℕ} {a gain
               holding = adding-more _ held c few (w .holding) y holding-is holding-part;
             }
 
-  pub totalling-done : s .contractcount ≤ c
-      → TotalFrom s closed closes opened opens used prices a (record { closing = toZ w64 gained; holding = toZ w64 held })
+  pub totalling-done : p .count ≤ c
+      → TotalFrom holder p closed closes opened opens used a (record { closing = toZ w64 gained; holding = toZ w64 held })
   totalling-done h =
-      let e : c ≡ s .contractcount = omega (arith, w .within) in
+      let e : c ≡ p .count = omega (arith, w .within) in
       record {
-        closing = w .closing .total ∙ ap (λ (n : ℕ). sumTo n (closingTerm s closed closes opened opens used prices a)) e;
-        holding = w .holding .total ∙ ap (λ (n : ℕ). sumTo n (holdingTerm s closed closes opened opens used prices a)) e;
+        closing = w .closing .total ∙ ap (λ (n : ℕ). sumTo n (closingTerm holder p closed closes opened opens used a)) e;
+        holding = w .holding .total ∙ ap (λ (n : ℕ). sumTo n (holdingTerm holder p closed closes opened opens used a)) e;
         closing-small = within-le (omega (arith, w .within, g .contracts)) (w .closing .small);
         holding-small = within-le (omega (arith, w .within, g .contracts)) (w .holding .small);
       }
@@ -154,7 +155,7 @@ module _ {s : State} {trades prices : List ℕ} (g : AllPayable s trades prices)
   few-contracts : (c : ℕ) → c < s .contractcount → c < 4
   few-contracts c lc = omega (arith, g .contracts)
 
-  pub totallable : Rooms closed closes opened opens used → Totallable s closed closes opened opens used prices a
+  totallable : Rooms closed closes opened opens used → Totallable (accountIn s a) (pricedIn s prices) closed closes opened opens used a
   totallable rooms =
       record {
         account = few-accounts;
@@ -167,7 +168,7 @@ module _ {s : State} {trades prices : List ℕ} (g : AllPayable s trades prices)
   times : (c : ℕ) (y z : ℤ) → y ≡ z → pos (contractIn s c .multiplier) *ℤ y ≡ pos (contractIn s c .multiplier) *ℤ z
   times c y z e = rw e
 
-  pub total-is : {r : Profit} → TotalFrom s closed closes opened opens used prices a r → TotalIs s trades prices a r
+  total-is : {r : Profit} → TotalFrom (accountIn s a) (pricedIn s prices) closed closes opened opens used a r → TotalIs s trades prices a r
   unfolding closingTo holdingTo dayIn
   total-is w =
       record {
@@ -180,3 +181,13 @@ module _ {s : State} {trades prices : List ℕ} (g : AllPayable s trades prices)
         closing-small = w .closing-small;
         holding-small = w .holding-small;
       }
+
+-- what is known of the day's sums before an account is paid: the accounts can be, each can be totalled, and its total is its profit
+pub record DaySummed (s : State) (trades prices closed closes opened opens used : List ℕ) : Type 0 where
+  pub payable : AllPayable s trades prices
+  pub totallable : (a : ℕ) → a < s .accountcount → Totallable (accountIn s a) (pricedIn s prices) closed closes opened opens used a
+  pub total : (a : ℕ) → a < s .accountcount → {r : Profit} → TotalFrom (accountIn s a) (pricedIn s prices) closed closes opened opens used a r → TotalIs s trades prices a r
+
+pub day-summed : {s : State} {trades prices closed closes opened opens left used : List ℕ} → AllPayable s trades prices → DaySums s trades closed closes opened opens left used
+    → Rooms closed closes opened opens used → DaySummed s trades prices closed closes opened opens used
+day-summed g d rooms = record { payable = g; totallable = λ a la. totallable g d a la rooms; total = λ a la w. total-is g d a la w }

@@ -27,6 +27,7 @@ use Rattle.dayprofit.specs.Slots.{slotOf, PlacedTrades, sumsAt, DaySmall}
 use Rattle.dayprofit.specs.declared.profit.Profit.{Profit}
 use Rattle.dayprofit.specs.declared.profit.Side.{Side}
 use Rattle.settlement.specs.declared.balances.Books.{Books}
+use Rattle.settlement.specs.declared.balances.Priced.{Priced}
 use Rattle.settlement.specs.declared.settle.Settled.{Settled}
 
 -- ---- THE SETTLEMENT: asked for on a well-formed state whose answer is code 0
@@ -83,32 +84,45 @@ pub record Payable (s : State) (trades prices : List ℕ) (a : ℕ) : Type 0 whe
   pub multiplier : (c : ℕ) → c < s .contractcount → contractIn s c .multiplier ≤ maxMultiplier
   pub each : (c : ℕ) → c < s .contractcount → Profitable (contractIn s c .reference) (holdingIn s a c) a c trades (s .tradecount) (getD prices c 0)
 
+-- the contracts in use as they are settled: their terms and settlement prices
+abbrev pub pricedIn : State → List ℕ → Priced
+pricedIn s prices = record { contracts = s .contracts; prices = prices; count = s .contractcount }
+
+abbrev pub termsOf : Priced → ℕ → Contract
+termsOf p c = getD (p .contracts) c noContract
+
+abbrev pub priceOf : Priced → ℕ → ℕ
+priceOf p c = getD (p .prices) c 0
+
+abbrev pub heldBy : Account → ℕ → Holding
+heldBy holder c = getD (holder .holdings) c noHolding
+
 -- an account's closing and holding part in a contract, from the sums of the day's legs
-abbrev pub longIn : State → List ℕ → List ℕ → List ℕ → List ℕ → List ℕ → ℕ → ℕ → Side
-longIn s closed closes opened opens used a c = sideFrom (contractIn s c .reference) (holdingIn s a c .startlong) (sumsAt closed closes opened opens used a c false)
+abbrev pub longIn : Account → Priced → List ℕ → List ℕ → List ℕ → List ℕ → List ℕ → ℕ → ℕ → Side
+longIn holder p closed closes opened opens used a c = sideFrom (termsOf p c .reference) (heldBy holder c .startlong) (sumsAt closed closes opened opens used a c false)
 
-abbrev pub shortIn : State → List ℕ → List ℕ → List ℕ → List ℕ → List ℕ → ℕ → ℕ → Side
-shortIn s closed closes opened opens used a c = sideFrom (contractIn s c .reference) (holdingIn s a c .startshort) (sumsAt closed closes opened opens used a c true)
+abbrev pub shortIn : Account → Priced → List ℕ → List ℕ → List ℕ → List ℕ → List ℕ → ℕ → ℕ → Side
+shortIn holder p closed closes opened opens used a c = sideFrom (termsOf p c .reference) (heldBy holder c .startshort) (sumsAt closed closes opened opens used a c true)
 
-abbrev pub closingIn : State → List ℕ → List ℕ → List ℕ → List ℕ → List ℕ → ℕ → ℕ → ℤ
-closingIn s closed closes opened opens used a c = closingFrom (longIn s closed closes opened opens used a c) (shortIn s closed closes opened opens used a c)
+abbrev pub closingIn : Account → Priced → List ℕ → List ℕ → List ℕ → List ℕ → List ℕ → ℕ → ℕ → ℤ
+closingIn holder p closed closes opened opens used a c = closingFrom (longIn holder p closed closes opened opens used a c) (shortIn holder p closed closes opened opens used a c)
 
-abbrev pub holdingPart : State → List ℕ → List ℕ → List ℕ → List ℕ → List ℕ → List ℕ → ℕ → ℕ → ℤ
-holdingPart s closed closes opened opens used prices a c = holdingFrom (getD prices c 0) (longIn s closed closes opened opens used a c) (shortIn s closed closes opened opens used a c)
+abbrev pub holdingPart : Account → Priced → List ℕ → List ℕ → List ℕ → List ℕ → List ℕ → ℕ → ℕ → ℤ
+holdingPart holder p closed closes opened opens used a c = holdingFrom (priceOf p c) (longIn holder p closed closes opened opens used a c) (shortIn holder p closed closes opened opens used a c)
 
-pub record Totallable (s : State) (closed closes opened opens used prices : List ℕ) (a : ℕ) : Type 0 where
+pub record Totallable (holder : Account) (p : Priced) (closed closes opened opens used : List ℕ) (a : ℕ) : Type 0 where
   pub account : a < maxAccounts
-  pub contracts : s .contractcount ≤ maxContracts
-  pub multiplier : (c : ℕ) → c < s .contractcount → contractIn s c .multiplier ≤ maxMultiplier
-  pub each : (c : ℕ) → c < s .contractcount → DaySmall closed closes opened opens used a c (contractIn s c .reference) (holdingIn s a c) (getD prices c 0)
+  pub contracts : p .count ≤ maxContracts
+  pub multiplier : (c : ℕ) → c < p .count → termsOf p c .multiplier ≤ maxMultiplier
+  pub each : (c : ℕ) → c < p .count → DaySmall closed closes opened opens used a c (termsOf p c .reference) (heldBy holder c) (priceOf p c)
 
 -- a part of an account's profit over all contracts
 abbrev pub accountProfitMost : ℕ
 accountProfitMost = maxContracts * maxMultiplier * profitMost
 
-pub record TotalFrom (s : State) (closed closes opened opens used prices : List ℕ) (a : ℕ) (r : Profit) : Type 0 where
-  pub closing : r .closing ≡ sumTo (s .contractcount) (λ c. pos (contractIn s c .multiplier) *ℤ closingIn s closed closes opened opens used a c)
-  pub holding : r .holding ≡ sumTo (s .contractcount) (λ c. pos (contractIn s c .multiplier) *ℤ holdingPart s closed closes opened opens used prices a c)
+pub record TotalFrom (holder : Account) (p : Priced) (closed closes opened opens used : List ℕ) (a : ℕ) (r : Profit) : Type 0 where
+  pub closing : r .closing ≡ sumTo (p .count) (λ c. pos (termsOf p c .multiplier) *ℤ closingIn holder p closed closes opened opens used a c)
+  pub holding : r .holding ≡ sumTo (p .count) (λ c. pos (termsOf p c .multiplier) *ℤ holdingPart holder p closed closes opened opens used a c)
   pub closing-small : Within accountProfitMost (r .closing)
   pub holding-small : Within accountProfitMost (r .holding)
 

@@ -15,6 +15,7 @@ use dayprofit::profit;
 use dayprofit::profit::Profit;
 use dayprofit::sums;
 use rules::Account;
+use rules::Contract;
 use rules::Holding;
 use rules::State;
 
@@ -32,27 +33,36 @@ fn multiplied(profit: i64, multiplier: u32) -> i64
     profit * multiplier as i64
 }
 
-// An account's profit: "times multiplier", over all contracts.
+// The contracts in use: their terms and settlement prices.
+struct Priced {
+    contracts: [Contract; rules::MAX_CONTRACTS],
+    prices: [u32; rules::MAX_CONTRACTS],
+    count: usize,
+}
+
+// An account's profit: "times multiplier", over all contracts. It takes the account and not the state: to read one account of many at a
+// place that is not known beforehand, a call copies them all.
 fn total<'a>(
-    state: State,
+    holder: Account,
+    priced: Priced,
     closed: &'a [u32],
     closes: &'a [u64],
     opened: &'a [u32],
     opens: &'a [u64],
     used: &'a [u64],
-    prices: [u32; rules::MAX_CONTRACTS],
     a: usize,
 ) -> Profit
-    requires { ⌜ Totallable state (now closed) (now closes) (now opened) (now opens) (now used) prices a ⌝ }
-    ensures { λ r. ⌜ TotalFrom state (now (closed .entry)) (now (closes .entry)) (now (opened .entry)) (now (opens .entry)) (now (used .entry)) prices a r ⌝ }
+    requires { ⌜ Totallable holder priced (now closed) (now closes) (now opened) (now opens) (now used) a ⌝ }
+    ensures { λ r. ⌜ TotalFrom holder priced (now (closed .entry)) (now (closes .entry)) (now (opened .entry)) (now (opens .entry)) (now (used .entry)) a r ⌝ }
 {
-    let holder = state.accounts[a];
-    let contracts = state.contractcount;
+    let contracts = priced.contracts;
+    let prices = priced.prices;
+    let count = priced.count;
     let mut closing: i64 = 0;
     let mut holding: i64 = 0;
     let mut c: usize = 0;
-    while c < contracts {
-        let contract = state.contracts[c];
+    while c < count {
+        let contract = contracts[c];
         let h = holder.holdings[c];
         let price = prices[c];
         let reference = contract.reference;
@@ -157,13 +167,19 @@ pub fn all_paid(state: State, trades: &[u32], prices: [u32; rules::MAX_CONTRACTS
     sums::take_first(trades, made, &mut left, &mut used);
     let contracts = state.contractcount;
     let count = state.accountcount;
+    let terms = state.contracts;
+    let priced = Priced {
+        contracts: terms,
+        prices,
+        count: contracts,
+    };
     let mut accounts = state.accounts;
     let mut closing: [i64; rules::MAX_ACCOUNTS] = [0; rules::MAX_ACCOUNTS];
     let mut holding: [i64; rules::MAX_ACCOUNTS] = [0; rules::MAX_ACCOUNTS];
     let mut a: usize = 0;
     while a < count {
         let account = state.accounts[a];
-        let p = total(state, &closed, &closes, &opened, &opens, &used, prices, a);
+        let p = total(account, priced, &closed, &closes, &opened, &opens, &used, a);
         let gained = p.closing;
         let held = p.holding;
         accounts[a] = paid(account, contracts, gained, held);

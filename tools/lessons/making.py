@@ -1,0 +1,37 @@
+"""What the tools share that make a page of a lesson: the lesson made ready, and the page written out."""
+
+import sys
+
+from lessons.lesson import Differs, Unusable, check_broken, printed_for, read
+
+
+def playable(path, runner):
+    """A lesson that can be played, and the lines that the runner prints for it."""
+    lesson = read(path)
+    printed = printed_for(lesson, runner)
+    if lesson.day is None:
+        check_broken(lesson, printed)
+        faults = "; ".join(lesson.faults)
+        raise Unusable(f"{lesson.name}: the file is broken, and nothing of it is carried out: {faults}")
+    return lesson, printed
+
+
+def write_made(tool, made):
+    """Writes what `made` makes to standard output, or says why there is nothing: 1 where the engine and the model differ, 2
+    where there is nothing to show."""
+    try:
+        sys.stdout.buffer.write(made().encode())
+        sys.stdout.flush()
+    except Unusable as unusable:
+        finish(tool, 2, unusable)
+    except Differs as differs:
+        finish(tool, 1, f"no {tool} is made: {differs}")
+    except OSError as error:
+        # The interpreter would try once more at its end, and complain.
+        sys.stdout = None
+        finish(tool, 2, f"standard output: {error.strerror}")
+
+
+def finish(tool, status, message):
+    print(f"{tool}: {message}", file=sys.stderr)
+    sys.exit(status)
