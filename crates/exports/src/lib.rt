@@ -53,6 +53,9 @@ pub const FLAG_FILL_OR_KILL: u8 = 32;
 // The flag of a cancel and of a pull. The flags of a phase command are the phase.
 pub const FLAG_OPERATOR: u8 = 1;
 
+// A buffer for a day file's lines: room for the longest lines of one command (134,875 bytes), and for the usual lines of some thousand.
+pub const OUTPUT_BYTES: usize = 200000;
+
 // Opens a day file: the state that its run begins with, and where its commands stand.
 #[no_mangle]
 pub extern "C" fn zelvorm_open(file: &[u8]) -> Opened
