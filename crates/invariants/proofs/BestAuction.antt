@@ -13,7 +13,7 @@ use Rattle.laws.specs.Sums.{sumOf, sumOf-ext}
 use Rattle.rules.specs.Auction.{Matched, afterMatch, auctionMatch, chosenPrice, lessFirst, lotsReaching, matchAt, paired, reaches, tradeAt, unmatched, volume}
 use Rattle.rules.specs.Exchange.{lotsWhere}
 use Rattle.rules.specs.AuctionFairness.{RespectsLimits, BestAuction, leftOn, lotsAllowed}
-use Rattle.rules.specs.Fairness.{LotsAccounted, lotsIn, lotsOf, lotsTraded, orderAt, orderOn}
+use Rattle.rules.specs.Fairness.{LotsAccounted, allLots, lotsNumbered, lotsTraded, orderAt, orderOn}
 use Rattle.rules.specs.Matching.{tradedLots, withLots}
 use Rattle.rules.specs.WellFormed.{numbers, sorted, usedOnce}
 use Rattle.rules.specs.declared.Order.{Order}
@@ -77,7 +77,7 @@ less-where test same n o os h = by-lots (ltb n (o .lots)) refl
         rw (less-filled n o os l) (full (test o) l)
 
 -- and from all
-less-in : (n : ℕ) (o : Order) (os : List Order) → n ≤ o .lots → lotsIn (o ∷ os) ≡ n + lotsIn (lessFirst n o os)
+less-in : (n : ℕ) (o : Order) (os : List Order) → n ≤ o .lots → allLots (o ∷ os) ≡ n + allLots (lessFirst n o os)
 unfolding sumOf lotsWhere
 less-in n o os h = less-where (λ p. true) (λ p lots. refl) n o os h
 
@@ -92,7 +92,7 @@ module _ (number n : ℕ) (o : Order) (os : List Order) (h : n ≤ o .lots) wher
       by-number true met e = rw e
       by-number false met e = refl
 
-  one-accounted : (more left : ℕ) → more + left ≡ lotsOf number (lessFirst n o os) → pick (eqb (o .number) number) n 0 + more + left ≡ lotsOf number (o ∷ os)
+  one-accounted : (more left : ℕ) → more + left ≡ lotsNumbered number (lessFirst n o os) → pick (eqb (o .number) number) n 0 + more + left ≡ lotsNumbered number (o ∷ os)
   one-accounted more left e = omega (arith, less-where (λ p. eqb (p .number) number) (λ p lots. refl) n o os h)
 
 -- ---- a match at a price: what holds of each side
@@ -123,7 +123,7 @@ one-matched sell price n o os after trade trades h e number lots r =
       allowed = λ k. rw (number, lots) (one-allowed k n o os h sell price (lotsTraded sell k trades) e (r .allowed k));
       accounted =
           record {
-            each = λ k. rw (number, lots) (one-accounted k n o os h (lotsTraded sell k trades) (lotsOf k after) (r .accounted .each k));
+            each = λ k. rw (number, lots) (one-accounted k n o os h (lotsTraded sell k trades) (lotsNumbered k after) (r .accounted .each k));
             together = omega (arith, traded-cons trade trades, r .accounted .together, less-in n o os h);
           };
       front = less-front n o os after (r .front);

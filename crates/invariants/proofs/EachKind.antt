@@ -1,9 +1,9 @@
 -- WHAT EACH KIND OWES, one clause a kind, and what then holds of every command: it KEEPS A WELL-FORMED STATE WELL FORMED, and its counts in
 -- range; ORDER NUMBERS STAY, AND TIME STAMPS ARE NEVER GIVEN TWICE IN A DAY (document 02, ticket 8); what becomes of the orders of an
--- account that it does not name; NO COMMAND CHANGES A MAKER MARK (ticket 7); WHAT IS CHARGED and WHICH BALANCES ARE READ (specs/Accounts). The
--- laws that the clauses cite name no kind. Assumes nothing.
+-- account that it does not name; NO COMMAND CHANGES A MAKER MARK (ticket 7); IT RECORDS THE TRADES THAT IT MAKES; WHAT IS CHARGED and WHICH
+-- BALANCES ARE READ (specs/Accounts). The laws that the clauses cite name no kind. Assumes nothing.
 use mathlib.Core.Bool.{Bool, true, false, true≢false, false≢true}
-use mathlib.Core.List.{List, [], _∷_}
+use mathlib.Core.List.{List, [], _∷_, _++_, append-nil}
 use mathlib.Core.Path.{_≡_, refl, sym, ap, _∙_}
 use Prim.Native.Nat.{ℕ, _+_, _<_, _≤_}
 use native.Mathlib.Nat.{le-refl}
@@ -15,6 +15,7 @@ use Rattle.laws.specs.Choice.{both-true}
 use Rattle.rules.specs.Auction.{matchOf}
 use Rattle.rules.specs.Change.{asked}
 use Rattle.rules.specs.Command.{Field, unused, holds, accountField, isChange, isSettle}
+use Rattle.rules.specs.Condition3.{madeBy}
 use Rattle.rules.specs.Exchange.{Exchange, accountAt, listingAt, listingNamed, placeOf}
 use Rattle.rules.specs.Kinds.{kindOf, codeOf, decide, lastOf, step}
 use Rattle.rules.specs.Quote.{offered, quoted, withBuy, withSell, withoutQuote}
@@ -41,6 +42,7 @@ use Rattle.invariants.proofs.OthersOrders.{Fated, cancel-spares, change
 use Rattle.invariants.proofs.Payments.{deposit-keeps, withdraw-keeps, deposit-counted, withdraw-counted}
 use Rattle.invariants.proofs.Phases.{phase-keeps, phase-counted}
 use Rattle.invariants.proofs.QuoteKeeps.{quote-keeps, quote-counted}
+use Rattle.invariants.proofs.Recorded.{changed-records, quoted-records}
 use Rattle.invariants.proofs.Removal.{cancel-keeps, pull-keeps, cancel-counted, pull-counted, cancel-there, pull-there}
 use Rattle.invariants.proofs.SeenBalances.{SameSeen, change-refusals, change-same, quote-answer, quote-left, quote-refusals, same-cancel, same-deposit, same-insert, same-phase, same-pull, same-settle, same-withdraw, state-twice}
 use Rattle.invariants.proofs.Settle.{settle-keeps, settle-counted}
@@ -265,6 +267,28 @@ module _ (x : Exchange) (a : ℕ) (there : a < length (x .accounts)) where
   pub makers-stay : (command : Command) → accountAt (step x command .accounts) a .maker ≡ accountAt (x .accounts) a .maker
   unfolding step
   makers-stay command = decided (λ d. Stays x a (lastOf x (d .stages))) x command (λ e. kind-stays command) (λ e. refl)
+
+-- ---- recorded trades
+
+module _ (x : Exchange) where
+  kind-records : (command : Command) → isSettle command ≡ false → lastOf x (kindOf x command .effect .stages) .trades ≡ x .trades ++ madeBy (kindOf x command .moves)
+  unfolding kindOf madeBy deposited withdrawn paid inserted exchangeAfter cancelled pulled removed phaseChanged exchangeMatched
+  kind-records Malformed n = sym (append-nil (x .trades))
+  kind-records (Deposit account amount) n = sym (append-nil (x .trades))
+  kind-records (Withdraw account amount) n = sym (append-nil (x .trades))
+  kind-records (Insert o) n = refl
+  kind-records (Cancel account contract operator number) n = sym (append-nil (x .trades))
+  kind-records (Pull account contract operator) n = sym (append-nil (x .trades))
+  kind-records (Phase contract phase) n = refl
+  kind-records Settle n = absurd (true≢false n)
+  kind-records (Quote account contract lots buy sell) n = quoted-records x (offered account contract lots buy sell)
+  kind-records (Change account contract number lots price) n = changed-records x (asked account contract number lots price)
+
+  -- WHAT AN ACCEPTED COMMAND RECORDS are the trades that its kind makes
+  pub trades-recorded : (command : Command) → codeOf x command ≡ 0 → isSettle command ≡ false → step x command .trades ≡ x .trades ++ madeBy (kindOf x command .moves)
+  unfolding step
+  trades-recorded command e n =
+      decided (λ d. lastOf x (d .stages) .trades ≡ x .trades ++ madeBy (kindOf x command .moves)) x command (λ q. kind-records command n) (λ r. absurd (r e))
 
 -- ---- charged margin
 

@@ -1,38 +1,37 @@
 -- LAWS 8 TO 13 (rules, specs/FairCommands) OF EVERY COMMAND on a well-formed state: an insert, both orders of a quote, a change that loses its place,
 -- and a change of state that leaves auction; throughout a run, and of the memory that a call leaves. Assumes nothing.
-use mathlib.Core.Bool.{Bool, true, false, not, true≢false}
+use mathlib.Core.Bool.{Bool, true, false}
 use mathlib.Core.List.{List, [], _∷_, _++_}
 use mathlib.Core.Path.{_≡_, refl, ap, subst⁻¹, _∙_}
-use Prim.Native.Nat.{ℕ, suc, _<_}
+use Prim.Native.Nat.{ℕ, _+_, _<_}
 use native.Mathlib.Omega.{arith}
-use borrow.Author.Tests.{eq-eqb}
 use lib.ListN.{length}
 use lib.Seq.{getD-set-same}
 use Rattle.laws.specs.Choice.{pick, pick-true}
 use Rattle.rules.specs.Answers.{phaseRefusals}
 use Rattle.rules.specs.Auction.{matchOf}
 use Rattle.rules.specs.Bounds.{inAuction}
-use Rattle.rules.specs.Change.{Asked, arriving, asked, gone, losesPlace, placeKept, placeLost, reentered, unchanged}
-use Rattle.rules.specs.Command.{isSettle}
+use Rattle.rules.specs.Change.{Asked, arriving, changed, gone, losesPlace, placeLost, reentered}
 use Rattle.rules.specs.Condition3.{run}
 use Rattle.rules.specs.Exchange.{Exchange, contractAt, listingAt, noListing, own, placeOf}
 use Rattle.rules.specs.AuctionFairness.{leftOn}
-use Rattle.rules.specs.FairCommands.{AuctionHeld, EachEntering, EndsIn, Entering, FairAuction, FairMatching, FairlyEntered, auctionAt, entering, leavesAuction, ordersEntered}
+use Rattle.rules.specs.FairCommands.{AuctionHeld, FairAuction, FairMatching, FairlyEntered, auctionOf, enteringAnew, enteringBuy, enteringNext, enteringSell}
 use Rattle.rules.specs.Kinds.{codeOf, kindOf, lastOf, step}
 use Rattle.rules.specs.Memory.{Memory, exchangeOf, respond, wellFormedMemory}
-use Rattle.rules.specs.Quote.{Offered, offered, quoted, withBuy, withSell}
-use Rattle.rules.specs.Step.{Effect, cancelled, deposited, exchangeMatched, inserted, listingMatched, paid, phaseChanged, pulled, removed, withdrawn}
+use Rattle.rules.specs.Quote.{Offered, quoted, withBuy, withSell}
+use Rattle.rules.specs.Step.{Effect, exchangeMatched, inserted, listingMatched, phaseChanged}
 use Rattle.rules.specs.WellFormed.{numbers, sorted, usedOnce}
 use Rattle.rules.specs.declared.Command.{Command}
-use Rattle.rules.specs.declared.Command.the-variants.{Malformed, Deposit, Withdraw, Insert, Cancel, Pull, Phase, Settle, Quote, Change}
-use Rattle.rules.proofs.AuctionSteps.{changed-elsewhere}
-use Rattle.rules.proofs.Changes.{changed-either, zero-keeps-none}
+use Rattle.rules.specs.declared.Command.the-variants.{Insert, Phase, Quote, Change}
+use Rattle.rules.specs.declared.NewOrder.{NewOrder}
+use Rattle.rules.proofs.Changes.{lost-changed}
 use Rattle.rules.proofs.Refusals.{failed, present}
 use Rattle.rules.proofs.Stages.{decided}
 use Rattle.invariants.specs.Throughout.{Throughout}
 use Rattle.invariants.proofs.BestAuction.{best-auction}
 use Rattle.invariants.proofs.ChangeKeeps as change
 use Rattle.invariants.proofs.Clauses.{Sound}
+use Rattle.invariants.proofs.EachKind.{trades-recorded}
 use Rattle.invariants.proofs.FairlyEntered.{fairly-entered, once-each}
 use Rattle.invariants.proofs.InsertAccepted.{passes}
 use Rattle.invariants.proofs.LargestPrice.{largest-volume}
@@ -42,19 +41,15 @@ use Rattle.invariants.proofs.Throughout.{of-call, of-run, throughout}
 -- ---- laws 8 to 11
 
 module _ (x : Exchange) (k : Sound x) where
-  changed-fairly : (q : Asked) → codeOf x (Change (q .account) (q .contract) (q .number) (q .lots) (q .price)) ≡ 0
-      → EachEntering FairlyEntered (pick (losesPlace x q) (entering (gone x q) (q .number) 0 (x .next) (arriving x q) ∷ []) [])
-  unfolding codeOf kindOf
-  changed-fairly q e = by-loss (losesPlace x q) refl
-    where
-      by-loss : (lost : Bool) → losesPlace x q ≡ lost → EachEntering FairlyEntered (pick lost (entering (gone x q) (q .number) 0 (x .next) (arriving x q) ∷ []) [])
-      by-loss true h =
-          (fairly-entered (gone x q) (change.gone-keeps x (k .contents) q e) (q .number) 0 (arriving x q) (change.passes x (k .contents) q e h (k .counts)) (x .next), tt)
-      by-loss false h = tt
+  inserted-fairly : (o : NewOrder) → codeOf x (Insert o) ≡ 0 → FairlyEntered (enteringNext x 0 o) (step x (Insert o))
+  unfolding codeOf kindOf inserted step
+  inserted-fairly o e =
+      decided (λ d. FairlyEntered (enteringNext x 0 o) (lastOf x (d .stages))) x (Insert o)
+      (λ q. fairly-entered x (k .contents) (x .next) 0 o (passes x o e) (x .next + 1)) (λ r. absurd (r e))
 
   quoted-fairly : (q : Offered) → codeOf x (Quote (q .account) (q .contract) (q .lots) (q .buy) (q .sell)) ≡ 0
-      → EachEntering FairlyEntered (ordersEntered x (Quote (q .account) (q .contract) (q .lots) (q .buy) (q .sell)))
-  unfolding codeOf kindOf
+      → FairlyEntered (enteringBuy x q) (withBuy x q) × FairlyEntered (enteringSell x q) (step x (Quote (q .account) (q .contract) (q .lots) (q .buy) (q .sell)))
+  unfolding codeOf kindOf quoted withBuy withSell step
   quoted-fairly q e =
       let w = k .contents in
       let a = holder x w q e in
@@ -62,72 +57,32 @@ module _ (x : Exchange) (k : Sound x) where
       let m = maker x w q e in
       let b = codes x w q e in (
         fairly-entered _ (gone-keeps x w q a c) _ 1 _ (buy-passes x w q a c m (b .0)) _,
-        (fairly-entered _ (buy-keeps x w q a c m (b .0)) _ 1 _ (sell-passes x w q a c m (b .0) (b .1)) _, tt),
+        decided (λ d. FairlyEntered (enteringSell x q) (lastOf x (d .stages))) x (Quote (q .account) (q .contract) (q .lots) (q .buy) (q .sell))
+            (λ r. fairly-entered _ (buy-keeps x w q a c m (b .0)) _ 1 _ (sell-passes x w q a c m (b .0) (b .1)) _) (λ r. absurd (r e)),
       )
 
-  each-fairly : (command : Command) → codeOf x command ≡ 0 → EachEntering FairlyEntered (ordersEntered x command)
-  unfolding codeOf kindOf
-  each-fairly Malformed e = tt
-  each-fairly (Deposit account amount) e = tt
-  each-fairly (Withdraw account amount) e = tt
-  each-fairly (Insert o) e = (fairly-entered x (k .contents) (x .next) 0 o (passes x o e) _, tt)
-  each-fairly (Cancel account contract operator number) e = tt
-  each-fairly (Pull account contract operator) e = tt
-  each-fairly (Phase contract phase) e = tt
-  each-fairly Settle e = tt
-  each-fairly (Quote account contract lots buy sell) e = quoted-fairly (offered account contract lots buy sell) e
-  each-fairly (Change account contract number lots price) e = changed-fairly (asked account contract number lots price) e
-
--- the last of them leaves what the command leaves
-module _ (x : Exchange) where
-  kind-ends : (command : Command) → EndsIn (lastOf x (kindOf x command .effect .stages)) (ordersEntered x command)
-  unfolding kindOf inserted quoted withBuy withSell placeLost reentered
-  kind-ends Malformed = tt
-  kind-ends (Deposit account amount) = tt
-  kind-ends (Withdraw account amount) = tt
-  kind-ends (Insert o) = refl
-  kind-ends (Cancel account contract operator number) = tt
-  kind-ends (Pull account contract operator) = tt
-  kind-ends (Phase contract phase) = tt
-  kind-ends Settle = tt
-  kind-ends (Quote account contract lots buy sell) = (refl, refl)
-  kind-ends (Change account contract number lots price) =
-      let q = asked account contract number lots price in
-      let ends : Bool → Exchange → Type 0 = λ lost y. EndsIn y (pick lost (entering (gone x q) number 0 (x .next) (arriving x q) ∷ []) []) in
-      changed-either x q (λ ts f. ends (losesPlace x q) (lastOf x (f .stages)))
-      (λ z. rw (zero-keeps-none x q (eq-eqb lots 0 z)) tt) (λ h. rw h refl) (λ h s. rw h tt) (λ z h s. rw h tt)
-
-  ends-in : (command : Command) → codeOf x command ≡ 0 → EndsIn (step x command) (ordersEntered x command)
-  unfolding step
-  ends-in command e = decided (λ d. EndsIn (lastOf x (d .stages)) (ordersEntered x command)) x command (λ q. kind-ends command) (λ r. absurd (r e))
-
-  -- no other command makes a trade
-  none-entered : (a : Entering) (as′ : List Entering) → a ∷ as′ ≡ [] → ⊥
-  none-entered a as′ e = let h : suc (length as′) ≡ 0 = ap length e in omega arith
-
-  kind-only : (command : Command) → ordersEntered x command ≡ [] → leavesAuction x command ≡ false → isSettle command ≡ false
-      → lastOf x (kindOf x command .effect .stages) .trades ≡ x .trades
-  unfolding kindOf deposited withdrawn paid cancelled pulled removed unchanged placeKept
-  kind-only Malformed h a s = refl
-  kind-only (Deposit account amount) h a s = refl
-  kind-only (Withdraw account amount) h a s = refl
-  kind-only (Insert o) h a s = absurd (none-entered _ _ h)
-  kind-only (Cancel account contract operator number) h a s = refl
-  kind-only (Pull account contract operator) h a s = refl
-  kind-only (Phase contract phase) h a s = ap (λ (f : Effect). lastOf x (f .stages) .trades) (changed-elsewhere x (placeOf contract) a phase)
-  kind-only Settle h a s = absurd (true≢false s)
-  kind-only (Quote account contract lots buy sell) h a s = absurd (none-entered _ _ h)
-  kind-only (Change account contract number lots price) h a s =
-      let q = asked account contract number lots price in
-      changed-either x q (λ ts f. lastOf x (f .stages) .trades ≡ x .trades) (λ z. refl) (λ lost. absurd (none-entered _ _ (rw lost at h))) (λ l e. refl) (λ z l e. refl)
-
-  trades-only : (command : Command) → ordersEntered x command ≡ [] → leavesAuction x command ≡ false → isSettle command ≡ false → step x command .trades ≡ x .trades
-  unfolding step
-  trades-only command h a s = decided (λ d. lastOf x (d .stages) .trades ≡ x .trades) x command (λ q. kind-only command h a s) (λ r. refl)
+  changed-fairly : (q : Asked) → codeOf x (Change (q .account) (q .contract) (q .number) (q .lots) (q .price)) ≡ 0 → losesPlace x q ≡ true
+      → FairlyEntered (enteringAnew x q) (step x (Change (q .account) (q .contract) (q .number) (q .lots) (q .price)))
+  unfolding codeOf kindOf placeLost reentered step
+  changed-fairly q e h =
+      decided (λ d. FairlyEntered (enteringAnew x q) (lastOf x (d .stages))) x (Change (q .account) (q .contract) (q .number) (q .lots) (q .price))
+      (λ r. ap-lost (fairly-entered (gone x q) (change.gone-keeps x (k .contents) q e) (q .number) 0 (arriving x q) (change.passes x (k .contents) q e h (k .counts)) (x .next)))
+      (λ r. absurd (r e))
+    where
+      ap-lost : FairlyEntered (enteringAnew x q) (lastOf x (placeLost x q .stages)) → FairlyEntered (enteringAnew x q) (lastOf x (changed x q .stages))
+      ap-lost = subst⁻¹ (λ (f : Effect). FairlyEntered (enteringAnew x q) (lastOf x (f .stages))) (lost-changed x q h)
 
 -- FAIR AND COMPLETE MATCHING
 pub fair-matching : (x : Exchange) (command : Command) → Sound x → FairMatching x command (step x command)
-fair-matching x command k = record { each = each-fairly x k command; leaves = ends-in x command; only = trades-only x command }
+fair-matching x command k =
+    record {
+      inserts = λ o q e. subst⁻¹ (λ d. FairlyEntered (enteringNext x 0 o) (step x d)) q (inserted-fairly x k o (rw q at e));
+      quotes = λ o q e.
+          let f = quoted-fairly x k o (rw q at e) in
+          (f .0, subst⁻¹ (λ d. FairlyEntered (enteringSell x o) (step x d)) q (f .1));
+      changes = λ o q e h. subst⁻¹ (λ d. FairlyEntered (enteringAnew x o) (step x d)) q (changed-fairly x k o (rw q at e) h);
+      recorded = trades-recorded x command;
+    }
 
 -- ---- laws 12 and 13
 
@@ -146,21 +101,21 @@ module _ (x : Exchange) (k : Sound x) (contract phase : ℕ) (e : codeOf x (Phas
   unfolding listingAt
   used-once = once-each (x .listings) (k .contents .once) c
 
-  ends-auction : step x (Phase contract phase) ≡ exchangeMatched x c phase (auctionAt x c)
+  ends-auction : step x (Phase contract phase) ≡ exchangeMatched x c phase (auctionOf x c)
   unfolding step kindOf phaseChanged matchOf
   ends-auction =
-      decided (λ d. lastOf x (d .stages) ≡ exchangeMatched x c phase (auctionAt x c)) x (Phase contract phase)
-      (λ q. ap (exchangeMatched x c phase) (pick-true (inAuction (contractAt x c)) (auctionAt x c) _ a)) (λ r. absurd (r e))
+      decided (λ d. lastOf x (d .stages) ≡ exchangeMatched x c phase (auctionOf x c)) x (Phase contract phase)
+      (λ q. ap (exchangeMatched x c phase) (pick-true (inAuction (contractAt x c)) (auctionOf x c) _ a)) (λ r. absurd (r e))
 
-  left-listing : listingAt (exchangeMatched x c phase (auctionAt x c)) c ≡ listingMatched (listingAt x c) phase (auctionAt x c)
+  left-listing : listingAt (exchangeMatched x c phase (auctionOf x c)) c ≡ listingMatched (listingAt x c) phase (auctionOf x c)
   unfolding exchangeMatched listingAt
-  left-listing = getD-set-same (x .listings) c (listingMatched (listingAt x c) phase (auctionAt x c)) noListing there
+  left-listing = getD-set-same (x .listings) c (listingMatched (listingAt x c) phase (auctionOf x c)) noListing there
 
-  left-queues : (sell : Bool) → own sell (listingAt (exchangeMatched x c phase (auctionAt x c)) c) ≡ leftOn sell (auctionAt x c)
+  left-queues : (sell : Bool) → own sell (listingAt (exchangeMatched x c phase (auctionOf x c)) c) ≡ leftOn sell (auctionOf x c)
   unfolding listingMatched
   left-queues sell = ap (own sell) left-listing ∙ by-side sell
     where
-      by-side : (s : Bool) → own s (listingMatched (listingAt x c) phase (auctionAt x c)) ≡ leftOn s (auctionAt x c)
+      by-side : (s : Bool) → own s (listingMatched (listingAt x c) phase (auctionOf x c)) ≡ leftOn s (auctionOf x c)
       by-side true = refl
       by-side false = refl
 

@@ -12,8 +12,8 @@ use Rattle.laws.specs.Sums.{sumOf}
 use Rattle.rules.specs.Answers.{fillableLots, isFillOrKill, isGoodForDay, listingOf, takerOf}
 use Rattle.rules.specs.Bounds.{inAuction, onTick}
 use Rattle.rules.specs.Exchange.{Exchange, Listing, listingAt, lotsWhere, noListing, opposite, own, placeOf}
-use Rattle.rules.specs.FairCommands.{FairlyEntered, LeftInBook, entering}
-use Rattle.rules.specs.Fairness.{AtLimitOrBetter, LotsAccounted, NothingBetterLeft, PriceThenTime, lotsOf, lotsTraded}
+use Rattle.rules.specs.FairCommands.{Entering, FairlyEntered}
+use Rattle.rules.specs.Fairness.{AtLimitOrBetter, LotsAccounted, NothingBetterLeft, PriceThenTime, lotsNumbered, lotsTraded}
 use Rattle.rules.specs.Matching.{Entered, enter, fillable, remainder, restLots, restWhole, restedLots, sweep, tradedLots}
 use Rattle.rules.specs.Step.{enteredOf, exchangeAfter, limitOf, listingAfter}
 use Rattle.rules.specs.WellFormed.{allListed, allNumbers, listed, numbers, orderInRange, sorted, usedOnce}
@@ -143,51 +143,56 @@ module _ (x : Exchange) (k : WellFormed x) (number quote : ℕ) (o : NewOrder) (
   unfolding enter restedLots restLots
   none-rests g = by-sweep (λ e. (e .rested ≡ 0) × (e .own ≡ own (o .sell) l)) (not-auctioned g) (rw g (refl, refl))
 
-  rest-added : (number′ n : ℕ) → lotsOf number′ (restLots t (limitOf (o .condition)) n (own (o .sell) l)) ≡ pick (eqb number number′) n 0 + lotsOf number′ (own (o .sell) l)
+  rest-added : (number′ n : ℕ) → lotsNumbered number′ (restLots t (limitOf (o .condition)) n (own (o .sell) l)) ≡ pick (eqb number number′) n 0 + lotsNumbered number′ (own (o .sell) l)
   unfolding restLots remainder takerOf lotsWhere
   rest-added number′ zero = by-number (eqb number number′)
     where
-      by-number : (same : Bool) → lotsOf number′ (own (o .sell) l) ≡ pick same 0 0 + lotsOf number′ (own (o .sell) l)
+      by-number : (same : Bool) → lotsNumbered number′ (own (o .sell) l) ≡ pick same 0 0 + lotsNumbered number′ (own (o .sell) l)
       by-number true = omega arith
       by-number false = omega arith
   rest-added number′ (suc n) =
       restIn-sum (λ p. pick (eqb (p .number) number′) (p .lots) 0) (t .sell) (remainder t (limitOf (o .condition)) (suc n)) (own (o .sell) l)
 
-  own-added : (number′ : ℕ) → lotsOf number′ (enteredOf x number quote o .own) ≡ pick (eqb number number′) (enteredOf x number quote o .rested) 0 + lotsOf number′ (own (o .sell) l)
+  own-added : (number′ : ℕ) → lotsNumbered number′ (enteredOf x number quote o .own) ≡ pick (eqb number number′) (enteredOf x number quote o .rested) 0 + lotsNumbered number′ (own (o .sell) l)
   unfolding enter restWhole
   own-added number′ =
-      entered-either x number quote o (λ e. lotsOf number′ (e .own) ≡ pick (eqb number number′) (e .rested) 0 + lotsOf number′ (own (o .sell) l))
+      entered-either x number quote o (λ e. lotsNumbered number′ (e .own) ≡ pick (eqb number number′) (e .rested) 0 + lotsNumbered number′ (own (o .sell) l))
       (λ a. rest-added number′ (o .lots)) (λ a. rest-added number′ _)
 
   -- ---- what it leaves
+
+  abbrev entering : ℕ → Entering
+  entering next = record { state = x; number = number; quote = quote; next = next; order = o }
 
   left-listing : (next : ℕ) → listingOf (exchangeAfter x o (enteredOf x number quote o) next) o ≡ listingAfter l (o .sell) (enteredOf x number quote o)
   unfolding listingOf listingAt exchangeAfter
   left-listing next = getD-set-same (x .listings) (placeOf (o .contract)) (listingAfter l (o .sell) (enteredOf x number quote o)) noListing (p .contract)
 
-  leaves-these : (next : ℕ) → LeftInBook (entering x number quote next o)
-  unfolding listingAfter exchangeAfter
-  leaves-these next =
-      record {
-        own-queue = ap (own (o .sell)) (left-listing next) ∙ same-own (o .sell);
-        opposite-queue = ap (opposite (o .sell)) (left-listing next) ∙ same-opposite (o .sell);
-        recorded = refl;
-      }
+  own-left : (next : ℕ) → own (o .sell) (listingOf (exchangeAfter x o (enteredOf x number quote o) next) o) ≡ enteredOf x number quote o .own
+  unfolding listingAfter
+  own-left next = ap (own (o .sell)) (left-listing next) ∙ by-side (o .sell)
     where
-      same-own : (sell : Bool) → own sell (listingAfter l sell (enteredOf x number quote o)) ≡ enteredOf x number quote o .own
-      same-own true = refl
-      same-own false = refl
+      by-side : (sell : Bool) → own sell (listingAfter l sell (enteredOf x number quote o)) ≡ enteredOf x number quote o .own
+      by-side true = refl
+      by-side false = refl
 
-      same-opposite : (sell : Bool) → opposite sell (listingAfter l sell (enteredOf x number quote o)) ≡ enteredOf x number quote o .opposite
-      same-opposite true = refl
-      same-opposite false = refl
+  opposite-left : (next : ℕ) → opposite (o .sell) (listingOf (exchangeAfter x o (enteredOf x number quote o) next) o) ≡ enteredOf x number quote o .opposite
+  unfolding listingAfter
+  opposite-left next = ap (opposite (o .sell)) (left-listing next) ∙ by-side (o .sell)
+    where
+      by-side : (sell : Bool) → opposite sell (listingAfter l sell (enteredOf x number quote o)) ≡ enteredOf x number quote o .opposite
+      by-side true = refl
+      by-side false = refl
 
   -- EVERY ORDER ENTERED ON A WELL-FORMED STATE IS ENTERED FAIRLY
-  pub fairly-entered : (next : ℕ) → FairlyEntered (entering x number quote next o)
-  unfolding takerOf enter restWhole
+  pub fairly-entered : (next : ℕ) → FairlyEntered (entering next) (exchangeAfter x o (enteredOf x number quote o) next)
+  unfolding takerOf enter restWhole exchangeAfter
   fairly-entered next =
       record {
-        left = leaves-these next;
+        leaves = refl;
+        own-queue = own-left next;
+        opposite-queue = opposite-left next;
+        recorded = refl;
         priority =
             entered-either x number quote o (λ e. PriceThenTime (not (o .sell)) queue (e .opposite) (e .trades)) (λ a. none-priority (not (o .sell)) queue)
             (λ a. swept-priority t (o .lots) last queue in-order used-once);

@@ -34,6 +34,7 @@ pub mod Stamps
 pub mod OneOrder
 pub mod Fates
 pub mod OthersOrders
+pub mod Recorded
 pub mod MarginWithin
 pub mod SeenBalances
 pub mod EachKind

@@ -13,7 +13,7 @@ use Rattle.laws.specs.Choice.{pick, pick-true, allOf, allOf-append, allOf-at, b
 use Rattle.laws.specs.Sums.{sumOf-at, sumOf-ext}
 use Rattle.rules.specs.Auction.{lessFirst}
 use Rattle.rules.specs.Exchange.{lotsWhere, noOrder, worse}
-use Rattle.rules.specs.Fairness.{PriceThenTime, isGone, lotsOf, lotsTraded, orderAt}
+use Rattle.rules.specs.Fairness.{PriceThenTime, isGone, lotsNumbered, lotsTraded, orderAt}
 use Rattle.rules.specs.Matching.{stays, withLots}
 use Rattle.rules.specs.WellFormed.{ahead, aheadOfFirst, listed, numbers, sorted, usedOnce}
 use Rattle.rules.specs.declared.Order.{Order}
@@ -243,7 +243,7 @@ one-lots test (o ∷ os) u (suc i) h =
     ∙ one-lots test os (b .1) i (omega arith)
 
 -- the same of all orders
-of-number : (number : ℕ) (os : List Order) → lotsOf number os ≡ lotsWhere (λ p. eqb (p .number) number && true) os
+of-number : (number : ℕ) (os : List Order) → lotsNumbered number os ≡ lotsWhere (λ p. eqb (p .number) number && true) os
 unfolding lotsWhere
 of-number number os = sumOf-ext _ _ os (λ p. by-number (eqb (p .number) number) (p .lots))
   where
@@ -251,14 +251,14 @@ of-number number os = sumOf-ext _ _ os (λ p. by-number (eqb (p .number) number)
     by-number true lots = refl
     by-number false lots = refl
 
-gone-no-lots : (number : ℕ) (os : List Order) → isGone number os ≡ true → lotsOf number os ≡ 0
+gone-no-lots : (number : ℕ) (os : List Order) → isGone number os ≡ true → lotsNumbered number os ≡ 0
 gone-no-lots number os h = of-number number os ∙ gone-lots (λ p. true) number os h
 
-own-lots : (os : List Order) → usedOnce (numbers os) ≡ true → (i : ℕ) → i < length os → lotsOf (orderAt os i .number) os ≡ orderAt os i .lots
+own-lots : (os : List Order) → usedOnce (numbers os) ≡ true → (i : ℕ) → i < length os → lotsNumbered (orderAt os i .number) os ≡ orderAt os i .lots
 own-lots os u i h = of-number (orderAt os i .number) os ∙ one-lots (λ p. true) os u i h
 
 -- an order behind those that have traded has its lots still
-behind-kept : (k : ℕ) (os : List Order) (j : ℕ) → k ≤ j → j < length os → orderAt os j .lots ≤ lotsOf (orderAt os j .number) (drop k os)
+behind-kept : (k : ℕ) (os : List Order) (j : ℕ) → k ≤ j → j < length os → orderAt os j .lots ≤ lotsNumbered (orderAt os j .number) (drop k os)
 unfolding lotsWhere
 behind-kept zero os j l h =
     let n = orderAt os j .number in
@@ -280,7 +280,7 @@ front-gone (suc (suc m)) keeps (o ∷ os) u h (suc i) l = front-gone (suc m) kee
 -- ---- price then time
 
 module _ (sell : Bool) (queue after : List Order) (trades : List Trade) (s : sorted sell queue ≡ true) (u : usedOnce (numbers queue) ≡ true)
-    (accounted : (number : ℕ) → lotsTraded sell number trades + lotsOf number after ≡ lotsOf number queue) (r : TakenFromFront queue after) where
+    (accounted : (number : ℕ) → lotsTraded sell number trades + lotsNumbered number after ≡ lotsNumbered number queue) (r : TakenFromFront queue after) where
   -- one that has traded is among the front
   among-front : (j : ℕ) → j < length queue → 0 < lotsTraded sell (orderAt queue j .number) trades → j < r .traded
   among-front j h some = by-place (ltb j (r .traded)) refl
@@ -289,7 +289,7 @@ module _ (sell : Bool) (queue after : List Order) (trades : List Trade) (s : sor
       by-place true e = ltb-true j (r .traded) e
       by-place false e =
           let kept = behind-kept (r .traded) queue j (ltb-false j (r .traded) e) h in
-          let left = ap (lotsOf (orderAt queue j .number)) (r .left) ∙ lots-append (λ p. eqb (p .number) (orderAt queue j .number)) (lastKeeps queue (r .traded) (r .keeps)) (drop (r .traded) queue) in
+          let left = ap (lotsNumbered (orderAt queue j .number)) (r .left) ∙ lots-append (λ p. eqb (p .number) (orderAt queue j .number)) (lastKeeps queue (r .traded) (r .keeps)) (drop (r .traded) queue) in
           absurd (omega (arith, accounted (orderAt queue j .number), own-lots queue u j h))
 
   ahead-gone : (i j : ℕ) → i < length queue → j < length queue → ahead sell (orderAt queue i) (orderAt queue j) ≡ true

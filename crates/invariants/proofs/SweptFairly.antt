@@ -12,7 +12,7 @@ use Rattle.laws.specs.Sums.{sumOf}
 use Rattle.rules.specs.Answers.{isLimit}
 use Rattle.rules.specs.Bounds.{onTick}
 use Rattle.rules.specs.Exchange.{bestPrice, lotsWhere}
-use Rattle.rules.specs.Fairness.{AtLimitOrBetter, LotsAccounted, NothingBetterLeft, PriceThenTime, lotsOf, lotsTraded, orderOn}
+use Rattle.rules.specs.Fairness.{AtLimitOrBetter, LotsAccounted, NothingBetterLeft, PriceThenTime, lotsNumbered, lotsTraded, orderOn}
 use Rattle.rules.specs.Matching.{Swept, counterpart, meets, sweep, tradePrice, tradeWith, tradedLots, withLots}
 use Rattle.rules.specs.WellFormed.{numbers, sorted, usedOnce}
 use Rattle.rules.specs.declared.Order.{Order}
@@ -49,25 +49,25 @@ module _ (t : Taker) where
   -- ---- 11. every lot is accounted for
 
   part-accounted : (number left last : ℕ) (o : Order) (os : List Order) → left < o .lots
-      → lotsTraded side number (tradeWith t o left last ∷ []) + lotsOf number (withLots o (o .lots - left) ∷ os) ≡ lotsOf number (o ∷ os)
+      → lotsTraded side number (tradeWith t o left last ∷ []) + lotsNumbered number (withLots o (o .lots - left) ∷ os) ≡ lotsNumbered number (o ∷ os)
   unfolding lotsWhere sumOf
   part-accounted number left last o os short =
       rw (resting-number t o left last, trade-lots t o left last) (by-number (eqb (o .number) number))
     where
       by-number : (same : Bool)
-          → (pick same (min left (o .lots)) 0 + 0) + (pick same (o .lots - left) 0 + lotsOf number os) ≡ pick same (o .lots) 0 + lotsOf number os
+          → (pick same (min left (o .lots)) 0 + 0) + (pick same (o .lots - left) 0 + lotsNumbered number os) ≡ pick same (o .lots) 0 + lotsNumbered number os
       by-number true = omega arith
       by-number false = omega arith
 
   full-accounted : (number left last : ℕ) (o : Order) (os : List Order) (s : Swept) → o .lots ≤ left
-      → lotsTraded side number (s .trades) + lotsOf number (s .rest) ≡ lotsOf number os
-      → lotsTraded side number (tradeWith t o left last ∷ s .trades) + lotsOf number (s .rest) ≡ lotsOf number (o ∷ os)
+      → lotsTraded side number (s .trades) + lotsNumbered number (s .rest) ≡ lotsNumbered number os
+      → lotsTraded side number (tradeWith t o left last ∷ s .trades) + lotsNumbered number (s .rest) ≡ lotsNumbered number (o ∷ os)
   unfolding lotsWhere sumOf
   full-accounted number left last o os s long ih =
       rw (resting-number t o left last, trade-lots t o left last) (by-number (eqb (o .number) number))
     where
       by-number : (same : Bool)
-          → (pick same (min left (o .lots)) 0 + lotsTraded side number (s .trades)) + lotsOf number (s .rest) ≡ pick same (o .lots) 0 + lotsOf number os
+          → (pick same (min left (o .lots)) 0 + lotsTraded side number (s .trades)) + lotsNumbered number (s .rest) ≡ pick same (o .lots) 0 + lotsNumbered number os
       by-number true = omega arith
       by-number false = omega arith
 

@@ -8,9 +8,10 @@ use lib.Dec.{ltb}
 use lib.ListN.{length}
 use Rattle.laws.specs.Choice.{pick, pick-either, pick-false}
 use Rattle.rules.specs.Answers.{isGoodForDay, listingOf, takerOf, tradesNeeded, tradesAgainst}
-use Rattle.rules.specs.Auction.{Matched, auctionMatch, matchOf, unmatched}
+use Rattle.rules.specs.Auction.{Matched, matchOf, unmatched}
 use Rattle.rules.specs.Bounds.{inAuction}
 use Rattle.rules.specs.Exchange.{Exchange, listingAt, opposite, own}
+use Rattle.rules.specs.FairCommands.{auctionOf}
 use Rattle.rules.specs.Holdings.{bookTrades}
 use Rattle.rules.specs.Matching.{Entered, Swept, afterTrade, counterpart, enter, lastPrice, restWhole, stays, sweep, tradePrice, tradeWith, untouched}
 use Rattle.rules.specs.Step.{accepted, enteredOf, exchangeMatched, limitOf, listingMatched, phaseChanged, withContract, withListing, withPhase}
@@ -64,20 +65,17 @@ module _ (x : Exchange) (number quote : ℕ) (o : NewOrder) where
 -- ---- a change of state
 
 module _ (x : Exchange) (c : ℕ) where
-  abbrev pub auctionOf : Matched
-  auctionOf = auctionMatch c (listingAt x c .contract .last) (listingAt x c .buys) (listingAt x c .sells)
-
   abbrev pub unmatchedOf : Matched
   unmatchedOf = unmatched (listingAt x c .buys) (listingAt x c .sells)
 
   pub match-elsewhere : inAuction (listingAt x c .contract) ≡ false → matchOf x c ≡ unmatchedOf
   unfolding matchOf
-  match-elsewhere e = pick-false (inAuction (listingAt x c .contract)) auctionOf unmatchedOf e
+  match-elsewhere e = pick-false (inAuction (listingAt x c .contract)) (auctionOf x c) unmatchedOf e
 
-  pub match-either : (P : Matched → Type 0) → (inAuction (listingAt x c .contract) ≡ true → P auctionOf)
+  pub match-either : (P : Matched → Type 0) → (inAuction (listingAt x c .contract) ≡ true → P (auctionOf x c))
       → (inAuction (listingAt x c .contract) ≡ false → P unmatchedOf) → P (matchOf x c)
   unfolding matchOf
-  match-either P = pick-either P (inAuction (listingAt x c .contract)) auctionOf unmatchedOf
+  match-either P = pick-either P (inAuction (listingAt x c .contract)) (auctionOf x c) unmatchedOf
 
   -- a change that makes no trades replaces the contract and nothing else
   pub nothing-matched : (phase : ℕ) → exchangeMatched x c phase unmatchedOf ≡ withListing x c (withContract (listingAt x c) (withPhase (listingAt x c .contract) phase))

@@ -1,8 +1,8 @@
 -- A change of a resting order is one of four: zero lots, the place lost, equal, the place kept. What is done when the place is lost
 -- is one listing replaced, with trades. Assumes nothing.
-use mathlib.Core.Bool.{Bool, true, false}
+use mathlib.Core.Bool.{Bool, true, false, true≢false}
 use mathlib.Core.List.{List, []}
-use mathlib.Core.Path.{_≡_, refl, ap}
+use mathlib.Core.Path.{_≡_, refl, sym, ap, _∙_}
 use Prim.Native.Nat.{ℕ, _+_, _<_, _≤_}
 use native.Mathlib.Omega.{arith}
 use borrow.Author.Tests.{eqb-true, eq-eqb, ne-eqb, le-ltb}
@@ -20,9 +20,18 @@ use Rattle.rules.specs.declared.Trade.{Trade}
 use Rattle.rules.proofs.Stages.{decided}
 
 module _ (x : Exchange) (k : Asked) where
-  pub zero-keeps-none : eqb (k .lots) 0 ≡ true → losesPlace x k ≡ false
+  zero-keeps-none : eqb (k .lots) 0 ≡ true → losesPlace x k ≡ false
   unfolding losesPlace
   zero-keeps-none e = rw e
+
+  -- "more lots or another price lose it"
+  pub lost-changed : losesPlace x k ≡ true → changed x k ≡ placeLost x k
+  unfolding changed
+  lost-changed h = by-lots (eqb (k .lots) 0) refl
+    where
+      by-lots : (zeros : Bool) → eqb (k .lots) 0 ≡ zeros → changed x k ≡ placeLost x k
+      by-lots true e = absurd (true≢false (sym h ∙ zero-keeps-none e))
+      by-lots false e = rw (e, h)
 
   -- which of the four it is, with the trades that it makes
   pub changed-either : (P : List Trade → Effect → Type 0)

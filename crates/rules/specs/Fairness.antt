@@ -39,12 +39,12 @@ accountOn sell trade = pick sell (trade .seller) (trade .buyer)
 abbrev pub lotsTraded : Bool → ℕ → List Trade → ℕ
 lotsTraded sell number trades = sumOf (λ trade. pick (eqb (orderOn sell trade) number) (trade .lots) 0) trades
 
--- the lots of the order with this number in a queue, and of all its orders
-abbrev pub lotsOf : ℕ → List Order → ℕ
-lotsOf number queue = lotsWhere (λ o. eqb (o .number) number) queue
+-- the lots of the order with this number in a queue, and the lots of all its orders
+abbrev pub lotsNumbered : ℕ → List Order → ℕ
+lotsNumbered number queue = lotsWhere (λ o. eqb (o .number) number) queue
 
-abbrev pub lotsIn : List Order → ℕ
-lotsIn queue = sumOf (λ o. o .lots) queue
+abbrev pub allLots : List Order → ℕ
+allLots queue = sumOf (λ o. o .lots) queue
 
 -- no order of the queue has this number
 abbrev pub isGone : ℕ → List Order → Bool
@@ -102,9 +102,9 @@ pub record AtLimitOrBetter (t : Taker) (queue : List Order) (trades : List Trade
 
 pub record LotsAccounted (sell : Bool) (before after : List Order) (trades : List Trade) : Type 0 where
   -- what an order has traded and what is left of it are what it had
-  pub each : (number : ℕ) → lotsTraded sell number trades + lotsOf number after ≡ lotsOf number before
+  pub each : (number : ℕ) → lotsTraded sell number trades + lotsNumbered number after ≡ lotsNumbered number before
   -- and in all
-  pub together : tradedLots trades + lotsIn after ≡ lotsIn before
+  pub together : tradedLots trades + allLots after ≡ allLots before
 
 -- The order that arrives, in its own words
 pub record OrderAccounted (t : Taker) (auctioned : Bool) (o : NewOrder) (own opposite : List Order) (e : Entered) : Type 0 where
@@ -119,4 +119,4 @@ pub record OrderAccounted (t : Taker) (auctioned : Bool) (o : NewOrder) (own opp
   -- not good for day, so immediate or cancel too: nothing rests, and its own queue is what it was
   pub vanishes : isGoodForDay (o .time) ≡ false → (e .rested ≡ 0) × (e .own ≡ own)
   -- in its own queue what rests of it is added, and no other order's lots change
-  pub added : (number : ℕ) → lotsOf number (e .own) ≡ pick (eqb (t .number) number) (e .rested) 0 + lotsOf number own
+  pub added : (number : ℕ) → lotsNumbered number (e .own) ≡ pick (eqb (t .number) number) (e .rested) 0 + lotsNumbered number own

@@ -8,7 +8,7 @@ use Rattle.laws.specs.Sums.{sumOf}
 use Rattle.rules.specs.Auction.{Matched, auctionMatch, bestFrom, bestOf, better, chosenPrice, lotsReaching, matchAt, matchIn, prices, surplus, tradeAt, volume}
 use Rattle.rules.specs.Examples.{Row, _gives_, allRight}
 use Rattle.rules.specs.Exchange.{bestPrice, lotsWhere}
-use Rattle.rules.specs.Fairness.{isGone, lotsIn, lotsOf, lotsTraded, tradeOf}
+use Rattle.rules.specs.Fairness.{isGone, allLots, lotsNumbered, lotsTraded, tradeOf}
 use Rattle.rules.specs.Matching.{Entered, Swept, average, enter, fillable, meets, middle, pairedPrice, remainder, restIn, restLots, restedLots, stays, sweep, tradePrice, tradeWith, tradedLots}
 use Rattle.rules.specs.declared.Order.{Order}
 use Rattle.rules.specs.declared.PairingMethod.{PairingMethod}
@@ -70,7 +70,7 @@ table =
     -- 9: of 20 lots with a limit of 111 4 are left over, and no order of the book is a counterpart; 112 is left
     ∷ (tradedLots (swept Middle (Limit 111) 20 .trades) gives 16)
     ∷ (fillable (buyer Middle (Limit 111)) (swept Middle (Limit 111) 20 .rest) gives 0)
-    ∷ (lotsIn (swept Middle (Limit 111) 20 .rest) gives 3)
+    ∷ (allLots (swept Middle (Limit 111) 20 .rest) gives 3)
     -- not traded through: 13 lots reach 111, and nothing at 110 is left
     ∷ (bestPrice (swept Middle Market 13 .rest) gives 111)
     -- 10: a limit of 112 meets 110: whatever the last price, 116, the buyer pays 112 at most; half the sum is 111; first in is 110
@@ -83,8 +83,8 @@ table =
     ∷ (tradedLots (swept Middle Best 13 .trades) gives 12)
     ∷ (price (swept Middle Best 13) 1 gives 110)
     -- 11: order 2 had 5 lots, of which 2 are traded and 3 left; all 19 are traded or left
-    ∷ (lotsOf 2 (swept Middle (Limit 112) 9 .rest) gives 3)
-    ∷ (tradedLots (swept Middle (Limit 112) 9 .trades) + lotsIn (swept Middle (Limit 112) 9 .rest) gives 19)
+    ∷ (lotsNumbered 2 (swept Middle (Limit 112) 9 .rest) gives 3)
+    ∷ (tradedLots (swept Middle (Limit 112) 9 .trades) + allLots (swept Middle (Limit 112) 9 .rest) gives 19)
     -- of 20 lots good for day 16 are traded and 4 rest; otherwise none rests
     ∷ (entered true 20 .rested gives 4)
     ∷ (entered false 20 .rested gives 0)
@@ -105,7 +105,7 @@ table =
     ∷ (lotsTraded true 3 (matched .trades) gives 7)
     ∷ (lotsTraded true 4 (matched .trades) gives 2)
     ∷ (lotsTraded false 2 (matched .trades) gives 0)
-    ∷ (lotsIn (matched .sells) gives 3)
+    ∷ (allLots (matched .sells) gives 3)
     -- the most at one price: 10 lots, though 20 could trade at two prices, 80 to 90 and 95 to 100
     ∷ (tradedLots (auctionMatch 0 90 twoBuys twoSells .trades) gives 10)
     ∷ []

@@ -14,12 +14,12 @@ pub mod Step
 pub mod Change
 pub mod Quote
 pub mod Kinds
-pub mod Fairness
-pub mod AuctionFairness
-pub mod FairCommands
 pub mod Memory
 pub mod Side
 pub mod Condition3
+pub mod Fairness
+pub mod AuctionFairness
+pub mod FairCommands
 pub mod Touches
 pub mod DayFile
 pub mod Lines
