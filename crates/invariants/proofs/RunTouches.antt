@@ -173,3 +173,8 @@ module _ (m : Memory) (cs : List Command) (day : withinDay cs ≡ true) where
   -- of the memory that a call leaves, where it is that of the run
   pub touches-left : (m′ : Memory) → m′ ≡ run m cs → RunTouches m cs m′
   touches-left m′ e = subst⁻¹ (RunTouches m cs) e run-touches
+
+-- of one command, where the memory left is what the rules respond with
+pub call-touches : (m : Memory) (c : Command) → isSettle c ≡ false → (m′ : Memory) → m′ ≡ respond m c .memory → RunTouches m (c ∷ []) m′
+unfolding run allOf
+call-touches m c n m′ e = touches-left m (c ∷ []) (rw n refl) m′ e
