@@ -96,7 +96,7 @@ pub record Ready (file buys sells trades : List ℕ) : Type 0 where
 abbrev pub Enough : ℕ → Type 0
 Enough room = (input : List ℕ) → output (take room input) ≡ output input
 
--- what is said of the last write: nothing where all was written, and otherwise "write failed", with a newline
+-- what is said of the last write: nothing where all was written, and otherwise that it failed, as a line of text
 abbrev pub failedNote : List ℕ
 failedNote = 119 ∷ 114 ∷ 105 ∷ 116 ∷ 101 ∷ 32 ∷ 102 ∷ 97 ∷ 105 ∷ 108 ∷ 101 ∷ 100 ∷ newline ∷ []
 
