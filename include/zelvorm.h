@@ -92,6 +92,10 @@ extern "C" {
 /* The flag of a cancel and of a pull. The flags of a phase command are the phase. */
 #define ZELVORM_FLAG_OPERATOR 1u
 
+/* A buffer for a day file's lines: room for the longest lines of one command (134,875 bytes), and for the usual lines
+ * of some thousand. */
+#define ZELVORM_OUTPUT_BYTES 200000u
+
 /* How many bytes are enough for any day file, for any saved state (write) and for any client statement. */
 #define ZELVORM_DAY_FILE_BYTES 48348u
 #define ZELVORM_SAVED_BYTES 1428u
@@ -388,9 +392,9 @@ ZELVORM_ASSERT(offsetof(zelvorm_state, nextstamp) == 2780);
 ZELVORM_ASSERT(offsetof(zelvorm_state, settlements) == 2784);
 
 /* 0, or 20 where the file is broken; the place of the first command's first byte in the file, and the number of
- * commands, 24 bytes each; the state that the file's run begins with. With 20 all else is zero, and every call on that
- * state is refused. Bytes 4 to 7 are padding: no answer depends on them, and what they hold after a call is not
- * promised. */
+ * commands, 24 bytes each; the state that the file's run begins with. With 20 all else is zero, and a call that tests
+ * the state refuses it with 21. Bytes 4 to 7 are padding: no answer depends on them, and what they hold after a call is
+ * not promised. */
 typedef struct zelvorm_opened {
     uint32_t code;
     size_t first;
@@ -557,6 +561,25 @@ ZELVORM_ASSERT(sizeof(zelvorm_loaded) == 2800);
 ZELVORM_ASSERT(offsetof(zelvorm_loaded, code) == 0);
 ZELVORM_ASSERT(offsetof(zelvorm_loaded, state) == 8);
 
+/* What a call printed: 0, or 21 where the state is not well formed, 29 where the buffer cannot hold the longest lines
+ * of one command; nothing is printed then. `length` bytes from the buffer's start are the part. `next` is the place of
+ * the next command, from 0, and with `state` goes into the next call, if there is more. Bytes 4 to 7 and 25 to 31 are
+ * padding: no answer depends on them, and what they hold after a call is not promised. */
+typedef struct zelvorm_printed {
+    uint32_t code;
+    size_t length;
+    size_t next;
+    bool more;
+    zelvorm_state state;
+} zelvorm_printed;
+
+ZELVORM_ASSERT(sizeof(zelvorm_printed) == 2824);
+ZELVORM_ASSERT(offsetof(zelvorm_printed, code) == 0);
+ZELVORM_ASSERT(offsetof(zelvorm_printed, length) == 8);
+ZELVORM_ASSERT(offsetof(zelvorm_printed, next) == 16);
+ZELVORM_ASSERT(offsetof(zelvorm_printed, more) == 24);
+ZELVORM_ASSERT(offsetof(zelvorm_printed, state) == 32);
+
 /* A resting order: its remaining lots, the account's place, 1 for a close and 0 for an open, its time stamp, 1 where it
  * is part of a quote and 0 elsewhere. */
 typedef struct zelvorm_order {
@@ -713,6 +736,18 @@ zelvorm_loaded zelvorm_read(
     const uint32_t *buys, size_t buys_words,
     const uint32_t *sells, size_t sells_words,
     const uint32_t *trades, size_t trades_words);
+
+/* The next part of a day file's lines, in the buffer `out`: what a day runner prints of it. The first call takes the
+ * state of `zelvorm_open` and `next` 0; each call gives the state and `next` for the following one, as long as it tells
+ * of more. A buffer of `OUTPUT_BYTES` is enough, and a longer one takes fewer calls. */
+zelvorm_printed zelvorm_lines(
+    const uint8_t *file, size_t file_bytes,
+    zelvorm_state state,
+    size_t next,
+    uint32_t *buys, size_t buys_words,
+    uint32_t *sells, size_t sells_words,
+    uint32_t *trades, size_t trades_words,
+    uint8_t *out, size_t out_bytes);
 
 /* Which engine this is, so that a certificate can name it: the version, the Rattle kit that proved it, and the hash of
  * the sources that were proved, as tools/version prints it. */

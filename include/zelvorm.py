@@ -77,6 +77,10 @@ FLAG_FILL_OR_KILL = 32
 # The flag of a cancel and of a pull. The flags of a phase command are the phase.
 FLAG_OPERATOR = 1
 
+# A buffer for a day file's lines: room for the longest lines of one command (134,875 bytes), and for the usual lines of
+# some thousand.
+OUTPUT_BYTES = 200000
+
 # How many bytes are enough for any day file, for any saved state (write) and for any client statement.
 DAY_FILE_BYTES = 48348
 SAVED_BYTES = 1428
@@ -321,8 +325,8 @@ assert ctypes.sizeof(State) == 2792
 
 
 # 0, or 20 where the file is broken; the place of the first command's first byte in the file, and the number of
-# commands, 24 bytes each; the state that the file's run begins with. With 20 all else is zero, and every call on that
-# state is refused.
+# commands, 24 bytes each; the state that the file's run begins with. With 20 all else is zero, and a call that tests
+# the state refuses it with 21.
 class Opened(ctypes.Structure):
     _fields_ = [
         ("code", ctypes.c_uint32),
@@ -480,6 +484,22 @@ class Loaded(ctypes.Structure):
 
 
 assert ctypes.sizeof(Loaded) == 2800
+
+
+# What a call printed: 0, or 21 where the state is not well formed, 29 where the buffer cannot hold the longest lines of
+# one command; nothing is printed then. `length` bytes from the buffer's start are the part. `next` is the place of the
+# next command, from 0, and with `state` goes into the next call, if there is more.
+class Printed(ctypes.Structure):
+    _fields_ = [
+        ("code", ctypes.c_uint32),
+        ("length", ctypes.c_size_t),
+        ("next", ctypes.c_size_t),
+        ("more", ctypes.c_bool),
+        ("state", State),
+    ]
+
+
+assert ctypes.sizeof(Printed) == 2824
 
 
 # A resting order: its remaining lots, the account's place, 1 for a close and 0 for an open, its time stamp, 1 where it
@@ -691,6 +711,24 @@ CALLS = {
         ctypes.POINTER(ctypes.c_uint32),
         ctypes.c_size_t,
         ctypes.POINTER(ctypes.c_uint32),
+        ctypes.c_size_t,
+    ),
+    # The next part of a day file's lines, in the buffer `out`: what a day runner prints of it. The first call takes the
+    # state of `zelvorm_open` and `next` 0; each call gives the state and `next` for the following one, as long as it
+    # tells of more. A buffer of `OUTPUT_BYTES` is enough, and a longer one takes fewer calls.
+    "zelvorm_lines": (
+        Printed,
+        ctypes.POINTER(ctypes.c_uint8),
+        ctypes.c_size_t,
+        State,
+        ctypes.c_size_t,
+        ctypes.POINTER(ctypes.c_uint32),
+        ctypes.c_size_t,
+        ctypes.POINTER(ctypes.c_uint32),
+        ctypes.c_size_t,
+        ctypes.POINTER(ctypes.c_uint32),
+        ctypes.c_size_t,
+        ctypes.POINTER(ctypes.c_uint8),
         ctypes.c_size_t,
     ),
     # Which engine is linked. This call is a help: it stands beside the proved ones, in an object of its own.

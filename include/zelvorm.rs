@@ -80,6 +80,10 @@ pub const FLAG_FILL_OR_KILL: u8 = 32;
 // The flag of a cancel and of a pull. The flags of a phase command are the phase.
 pub const FLAG_OPERATOR: u8 = 1;
 
+// A buffer for a day file's lines: room for the longest lines of one command (134,875 bytes), and for the usual lines
+// of some thousand.
+pub const OUTPUT_BYTES: usize = 200000;
+
 // How many bytes are enough for any day file, for any saved state (write) and for any client statement.
 pub const DAY_FILE_BYTES: usize = 48348;
 pub const SAVED_BYTES: usize = 1428;
@@ -328,8 +332,8 @@ pub struct State {
 const _: () = assert!(size_of::<State>() == 2792);
 
 /// 0, or 20 where the file is broken; the place of the first command's first byte in the file, and the number of
-/// commands, 24 bytes each; the state that the file's run begins with. With 20 all else is zero, and every call on that
-/// state is refused.
+/// commands, 24 bytes each; the state that the file's run begins with. With 20 all else is zero, and a call that tests
+/// the state refuses it with 21.
 #[repr(C)]
 #[derive(Clone, Copy, Debug, PartialEq)]
 pub struct Opened {
@@ -475,6 +479,21 @@ pub struct Loaded {
 }
 
 const _: () = assert!(size_of::<Loaded>() == 2800);
+
+/// What a call printed: 0, or 21 where the state is not well formed, 29 where the buffer cannot hold the longest lines
+/// of one command; nothing is printed then. `length` bytes from the buffer's start are the part. `next` is the place of
+/// the next command, from 0, and with `state` goes into the next call, if there is more.
+#[repr(C)]
+#[derive(Clone, Copy, Debug, PartialEq)]
+pub struct Printed {
+    pub code: u32,
+    pub length: usize,
+    pub next: usize,
+    pub more: bool,
+    pub state: State,
+}
+
+const _: () = assert!(size_of::<Printed>() == 2824);
 
 /// A resting order: its remaining lots, the account's place, 1 for a close and 0 for an open, its time stamp, 1 where
 /// it is part of a quote and 0 elsewhere.
@@ -645,6 +664,20 @@ mod linked {
             trades: *const u32,
             trades_words: usize,
         ) -> Loaded;
+        pub fn zelvorm_lines(
+            file: *const u8,
+            file_bytes: usize,
+            state: State,
+            next: usize,
+            buys: *mut u32,
+            buys_words: usize,
+            sells: *mut u32,
+            sells_words: usize,
+            trades: *mut u32,
+            trades_words: usize,
+            out: *mut u8,
+            out_bytes: usize,
+        ) -> Printed;
         pub fn zelvorm_engine() -> Identity;
     }
 }
@@ -793,6 +826,21 @@ pub fn read(
     trades: &[u32],
 ) -> Loaded {
     unsafe { linked::zelvorm_read(file.as_ptr(), file.len(), state, buys.as_ptr(), buys.len(), sells.as_ptr(), sells.len(), trades.as_ptr(), trades.len()) }
+}
+
+/// The next part of a day file's lines, in the buffer `out`: what a day runner prints of it. The first call takes the
+/// state of `zelvorm_open` and `next` 0; each call gives the state and `next` for the following one, as long as it
+/// tells of more. A buffer of `OUTPUT_BYTES` is enough, and a longer one takes fewer calls.
+pub fn lines(
+    file: &[u8],
+    state: State,
+    next: usize,
+    buys: &mut [u32],
+    sells: &mut [u32],
+    trades: &mut [u32],
+    out: &mut [u8],
+) -> Printed {
+    unsafe { linked::zelvorm_lines(file.as_ptr(), file.len(), state, next, buys.as_mut_ptr(), buys.len(), sells.as_mut_ptr(), sells.len(), trades.as_mut_ptr(), trades.len(), out.as_mut_ptr(), out.len()) }
 }
 
 /// Which engine is linked. This call is a help: it stands beside the proved ones, in an object of its own.
