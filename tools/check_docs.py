@@ -91,7 +91,7 @@ def now(text):
     """The text without superseded decisions and lines that say what is gone."""
     parts = re.split(r"(?m)^(?=## )", text)
     parts = [part for part in parts if not re.search(r"\A## .*\n\nSuperseded by", part)]
-    return "\n".join(line for line in "".join(parts).split("\n") if not re.search(r"\bgone\b|takes it back|Supersedes decision 29", line))
+    return "\n".join(line for line in "".join(parts).split("\n") if not re.search(r"\b[Gg]one\b|takes it back|Supersedes decision 29", line))
 
 
 def missing(text, words, edits, crates, names=True):

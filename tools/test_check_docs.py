@@ -28,6 +28,7 @@ class Missing(unittest.TestCase):
 
     def test_what_was(self):
         self.assertEqual(self.missing("`swept` is gone"), [])
+        self.assertEqual(self.missing("*New.* `sweep`. *Gone.* `swept`."), [])
         self.assertEqual(self.missing("## 1. Old\n\nSuperseded by 2.\n\n`swept`\n## 2. New\n`sweep`\n"), [])
         self.assertEqual(self.missing("## 1. Old\n\n`swept`\n"), ["swept"])
 

@@ -24,6 +24,8 @@ STEP = 60
 
 def missing():
     """What these tests need and is not here."""
+    if sys.platform != "linux":
+        return "a disk can be preloaded under Linux alone"
     if subprocess.run([TOP / "tools" / "build_library", "current"]).returncode != 0:
         return "target/library is not built for these sources: tools/build_library builds it"
     return None if shutil.which("cc") else "no cc here"
@@ -80,7 +82,7 @@ def contents(folder):
 class Languages(HostTest):
     def test_rust(self):
         if not faults.rust_is_here():
-            self.skipTest("no rustc 1.89 or newer here: the host in Rust is not tested")
+            self.skipTest("no cargo with rustc 1.89 or newer here: the host in Rust is not tested")
         self.assertEqual([host.name for host in hosts], ["host_c", "host_rust"])
 
 

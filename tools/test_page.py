@@ -19,6 +19,8 @@ import model
 TOOL = Path(page.__file__)
 TOP = TOOL.parents[1]
 SAMPLES = TOP / "samples"
+# The texts that are a day: a day file stands beside each.
+DAYS = sorted(path for path in SAMPLES.glob("*.txt") if path.with_suffix(".day").exists())
 MODEL_AS_RUNNER = f"{sys.executable} {TOP / 'tools' / 'model' / 'model.py'}"
 
 HEAD = "contract multiplier 10 tick 1 reference 100 band 10 limit 1000 rate 1000\naccount 10,000\naccount 10,000\n"
@@ -59,7 +61,7 @@ class Content(unittest.TestCase):
         )
 
     def test_every_line_of_the_runner(self):
-        for path in sorted(SAMPLES.glob("*.txt")):
+        for path in DAYS:
             steps = data_in(page_of_sample(path.stem))["steps"]
             lines = [said["line"] for step in steps for said in step["said"] if said["line"]]
             self.assertEqual(lines, path.with_suffix(".out").read_text().splitlines(), path.name)
@@ -536,7 +538,7 @@ class InABrowser(unittest.TestCase):
 
     def test_every_sample(self):
         """The steps of every sample, of a long one every 50th, are shown without an error, with the runner's lines."""
-        for path in sorted(SAMPLES.glob("*.txt")):
+        for path in DAYS:
             self.open(path.stem)
             groups = lesson.lines_by_command(path.with_suffix(".out").read_text())
             last = len(groups) - 1

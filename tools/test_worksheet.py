@@ -12,13 +12,13 @@ from pathlib import Path
 import browser
 import worksheet
 from lessons import lesson
-from test_page import HEAD, MODEL_AS_RUNNER, SAMPLES, pages_in
+from test_page import DAYS, HEAD, MODEL_AS_RUNNER, SAMPLES, pages_in
 
 import daytext
 import model
 
 TOOL = Path(worksheet.__file__)
-LESSONS = sorted(path.stem for path in SAMPLES.glob("[01][0-9]-*.txt"))
+LESSONS = [path.stem for path in DAYS if path.stem[:2].isdigit()]
 
 
 @cache

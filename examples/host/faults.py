@@ -149,9 +149,9 @@ def build_c(program, source=HERE / "host.c", *flags):
 
 
 def build_rust(program):
-    links = ("-L", f"native={LIBRARY}", "-l", "static=zelvorm")
-    build("rustc", "--edition", "2021", "-O", "-D", "warnings", *links, "-o", program, HERE / "host.rs")
-    return program
+    folder = TOP / "target" / "cargo"
+    build("cargo", "build", "--release", "--offline", "--quiet", "--target-dir", folder, "--manifest-path", HERE / "Cargo.toml")
+    return shutil.copy(folder / "release" / "host", program)
 
 
 def build_disk(program):
@@ -161,7 +161,7 @@ def build_disk(program):
 
 def rust_is_here():
     """Whether there is a Rust that knows all that host.rs uses."""
-    if not shutil.which("rustc"):
+    if not shutil.which("rustc") or not shutil.which("cargo"):
         return False
     version = re.search(rb"rustc (\d+)\.(\d+)", run("rustc", "--version").stdout)
     return bool(version) and (int(version[1]), int(version[2])) >= (1, 89)

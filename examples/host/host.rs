@@ -12,18 +12,15 @@
 //!
 //! Exit status: 0 the input has ended; 1 stopped, and standard error says why; 2 not called rightly.
 
-#[path = "../../include/zelvorm.rs"]
-mod zelvorm;
-
 use std::fs::{File, OpenOptions, TryLockError};
 use std::io::{self, ErrorKind, Read, Write};
 use std::os::unix::fs::FileExt;
 use std::path::{Path, PathBuf};
 use std::process::exit;
-use zelvorm::{Record, Report, State};
+use zelvorm::{raw, Effect, Exchange, Record, Settlement, Side};
 
 /// A settlement ends a day and a run has at most so many, so a folder has at most so many journals.
-const MAX_DAYS: u32 = zelvorm::MAX_SETTLEMENTS + 1;
+const MAX_DAYS: u32 = raw::MAX_SETTLEMENTS + 1;
 
 // A journal is a head and then records. A record is a command's number (4), its 24 bytes and a checksum (4).
 const RECORD_WIDTH: usize = 32;
@@ -101,20 +98,6 @@ fn checksum(before: u32, bytes: &[u8]) -> u32 {
     static TABLE: [u32; 256] = crc_table();
     let sum = bytes.iter().fold(!before, |sum, byte| sum >> 8 ^ TABLE[usize::from(sum as u8 ^ byte)]);
     !sum | 0x8000_0000
-}
-
-/// A command from its 24 bytes.
-fn record(bytes: &[u8]) -> Record {
-    Record {
-        kind: bytes[0],
-        account: bytes[1],
-        contract: bytes[2],
-        flags: bytes[3],
-        lots: number_at(bytes, 4),
-        price: number_at(bytes, 8),
-        number: number_at(bytes, 12),
-        amount: u64::from_le_bytes(bytes[16..24].try_into().unwrap()),
-    }
 }
 
 /// Which engine this is, in one line.
@@ -231,8 +214,6 @@ struct Journal {
     /// That of the last record, or of the head.
     checksum: u32,
     origin: u32,
-    /// How many settlements were made before this day.
-    settled: u32,
     /// Of the head.
     length: usize,
     identity: Vec<u8>,
@@ -274,7 +255,6 @@ impl Journal {
             commands: 0,
             checksum: number_at(&head, length - 4),
             origin: number_at(&head, ORIGIN_AT),
-            settled: 0,
             length,
             identity: identity.to_vec(),
             beginning: beginning.to_vec(),
@@ -352,7 +332,7 @@ impl Journal {
     }
 
     /// Puts a command at the journal's end and makes it durable.
-    fn append(&mut self, command: &[u8]) -> Done<()> {
+    fn append(&mut self, command: &[u8; raw::COMMAND_WIDTH]) -> Done<()> {
         let number = self.next();
         if number == NOTHING_TOLD {
             return stop("the numbers of commands are used up: begin in another folder, after a settlement".into());
@@ -375,11 +355,11 @@ impl Journal {
         Ok(())
     }
 
-    /// Commands from a place of the journal on, one after the other.
-    fn read_commands(&self, from: u32, count: usize) -> Done<Vec<u8>> {
+    /// Commands from a place of the journal on.
+    fn read_commands(&self, from: u32, count: usize) -> Done<Vec<[u8; raw::COMMAND_WIDTH]>> {
         let mut block = vec![0; count * RECORD_WIDTH];
         read_at(&self.file, &self.name, &mut block, self.place_of(from))?;
-        Ok(block.chunks_exact(RECORD_WIDTH).flat_map(|record| &record[COMMAND_AT..CHECKSUM_AT]).copied().collect())
+        Ok(block.chunks_exact(RECORD_WIDTH).map(|record| record[COMMAND_AT..CHECKSUM_AT].try_into().unwrap()).collect())
     }
 }
 
@@ -401,140 +381,120 @@ fn read_text(bytes: &[u8]) -> Option<(&[u8], &[u8])> {
     rest.split_at_checked(number_at(count, 0) as usize)
 }
 
-// ---- The exchange ----
+// ---- The day ----
 
-/// What the engine is lent.
-struct Exchange {
-    state: State,
-    buys: Vec<u32>,
-    sells: Vec<u32>,
-    trades: Vec<u32>,
+/// A day at work: its journal, and the exchange after the journal's commands.
+struct Day {
+    journal: Journal,
+    exchange: Exchange,
+    /// How many settlements were made before this day.
+    settled: u32,
 }
 
-impl Exchange {
-    fn new() -> Exchange {
-        let queue = || vec![0; zelvorm::QUEUES_WORDS];
-        // A file that is refused gives a state of zeros.
-        let state = zelvorm::open(&[]).state;
-        Exchange { state, buys: queue(), sells: queue(), trades: vec![0; zelvorm::TRADES_WORDS] }
-    }
-
-    /// The state that the day began with, by `open` or by `read`.
-    fn begin_day(&mut self, journal: &mut Journal) -> Done<()> {
-        let (code, state) = if journal.origin == FROM_DAY_FILE {
-            let opened = zelvorm::open(&journal.beginning);
-            (opened.code, opened.state)
+impl Day {
+    /// The exchange as the day began, by `open` or by `read`.
+    fn begin(journal: Journal) -> Done<Day> {
+        let begun = if journal.origin == FROM_DAY_FILE {
+            Exchange::open(&journal.beginning).map(|day| day.exchange)
         } else {
-            let loaded = zelvorm::read(&journal.beginning, self.state, &self.buys, &self.sells, &self.trades);
-            (loaded.code, loaded.state)
+            Exchange::read(&journal.beginning)
         };
-        if code != zelvorm::CODE_ACCEPTED {
-            let words = zelvorm::code_words(code);
-            return stop(format!("{} begins with a file that is refused, code {code}: {words}", journal.name));
-        }
-        self.state = state;
-        journal.settled = state.settlements;
-        Ok(())
+        let exchange = begun.map_err(|refusal| Stop(format!("{} begins with a file that is refused, {refusal}", journal.name)))?;
+        Ok(Day { settled: exchange.settlements(), journal, exchange })
     }
 
-    /// Plays the journal again: by `run`, and from command `told` on one by one, with the answers.
-    fn play(&mut self, journal: &mut Journal, told: u32) -> Done<()> {
-        self.begin_day(journal)?;
-        let silent = told.saturating_sub(journal.first).min(journal.commands);
-        let mut answers = vec![0; BLOCK * zelvorm::ANSWER_STRIDE];
+    /// The day after all that its journal has: by `run`, and from command `told` on one by one, with the answers.
+    fn played(journal: Journal, told: u32) -> Done<Day> {
+        let mut day = Day::begin(journal)?;
+        let silent = told.saturating_sub(day.journal.first).min(day.journal.commands);
+        let mut answers = vec![0; BLOCK * raw::ANSWER_STRIDE];
         for from in (0..silent).step_by(BLOCK) {
-            let commands = journal.read_commands(from, BLOCK.min((silent - from) as usize))?;
-            let ran = zelvorm::run(self.state, &mut self.buys, &mut self.sells, &mut self.trades, &commands, &mut answers);
-            self.state = ran.state;
+            let commands = day.journal.read_commands(from, BLOCK.min((silent - from) as usize))?;
+            day.exchange.run_bytes(commands.as_flattened(), &mut answers);
         }
-        for k in silent..journal.commands {
-            self.carry_out(journal.first + k, &journal.read_commands(k, 1)?)?;
+        for k in silent..day.journal.commands {
+            let command = day.journal.read_commands(k, 1)?[0];
+            day.carry_out(day.journal.first + k, &command)?;
         }
-        Ok(())
+        Ok(day)
     }
 
     /// Carries out a command of the journal and gives its answer, in the lines of the day runner.
-    fn carry_out(&mut self, number: u32, command: &[u8]) -> Done<()> {
-        let before = self.state;
-        let r = zelvorm::execute(before, &mut self.buys, &mut self.sells, &mut self.trades, record(command));
-        self.state = r.state;
-        let answer = r.answer;
-        let mut lines = format!("C {number} {} {} {} {}\n", answer.code, answer.number, answer.traded, answer.lots);
-        for (k, t) in self.trades_from(before.tradecount) {
-            lines += &format!("T {} {} {} {} {} {}\n", k + 1, t[0] + 1, t[1], t[2], t[3], t[4]);
+    fn carry_out(&mut self, number: u32, command: &[u8; raw::COMMAND_WIDTH]) -> Done<()> {
+        let before = self.exchange.trades().count();
+        let response = self.exchange.respond(Record::from_bytes(command));
+        let code = response.answer.err().map_or(0, |refusal| refusal.code());
+        let answer = response.answer.unwrap_or_default();
+        let mut lines = format!("C {number} {code} {} {} {}\n", answer.order, answer.traded, answer.lots);
+        for (k, t) in self.exchange.trades().enumerate().skip(before) {
+            lines += &format!("T {} {} {} {} {} {}\n", k + 1, t.contract, t.price, t.lots, t.buy_order, t.sell_order);
         }
-        if self.state.settlements > before.settlements {
-            lines += &self.settlement(&r.report);
-        }
+        lines += &response.settlement.map_or(String::new(), |settlement| settlement_lines(&settlement));
         give(lines.as_bytes())
     }
 
-    /// The trades of the day from a place on, word by word.
-    fn trades_from(&self, place: usize) -> impl Iterator<Item = (usize, &[u32])> {
-        let all = self.trades.chunks_exact(zelvorm::TRADE_STRIDE).take(self.state.tradecount);
-        all.enumerate().skip(place)
-    }
-
-    fn settlement(&self, report: &Report) -> String {
-        let mut lines = String::new();
-        for c in 0..self.state.contractcount {
-            lines += &format!("P {} {}\n", c + 1, report.prices[c]);
-        }
-        for a in 0..self.state.accountcount {
-            let [closing, holding] = [report.closing[a], report.holding[a]];
-            lines += &format!("B {} {closing} {holding} {} {}\n", a + 1, self.state.accounts[a].balance, report.charged[a]);
-        }
-        lines
+    fn is_over(&self) -> bool {
+        self.exchange.settlements() > self.settled
     }
 
     /// After its settlement a day is saved, and the next day's journal begins with what was saved.
-    fn begin_next_day(&mut self, folder: &Folder, journal: Journal) -> Done<Journal> {
-        let mut file = [0; zelvorm::SAVED_BYTES];
-        let saved = zelvorm::write(self.state, &self.buys, &self.sells, &self.trades, &mut file);
-        if saved.code != zelvorm::CODE_ACCEPTED {
-            let words = zelvorm::code_words(saved.code);
-            return stop(format!("day {} cannot be saved, code {}: {words}", journal.day, saved.code));
-        }
-        let file = &file[..saved.length];
-        folder.put_in_place(&format!("day-{:03}.saved", journal.day), file)?;
-        folder.put_journal(journal.day + 1, journal.next(), FROM_SAVED_STATE, file)?;
-        let mut next = Journal::open(folder, journal.day + 1, true)?;
-        self.begin_day(&mut next)?;
-        Ok(next)
+    fn next_day(self, folder: &Folder) -> Done<Day> {
+        let day = self.journal.day;
+        let saved = self.exchange.write().map_err(|refusal| Stop(format!("day {day} cannot be saved, {refusal}")))?;
+        folder.put_in_place(&format!("day-{day:03}.saved"), &saved)?;
+        folder.put_journal(day + 1, self.journal.next(), FROM_SAVED_STATE, &saved)?;
+        Day::begin(Journal::open(folder, day + 1, true)?)
     }
+}
 
-    /// The state in lines. Their fields are those of the records in zelvorm.rs; accounts and contracts are numbered from 1.
-    fn lines(&self) -> String {
-        let s = &self.state;
-        let mut lines = String::new();
-        for (k, c) in s.contracts[..s.contractcount].iter().enumerate() {
-            let terms = format!("{} {} {} {} {} {} {}", c.multiplier, c.tick, c.reference, c.band, c.limit, c.rate, c.method);
-            lines += &format!("contract {} {terms} {} {}\n", k + 1, c.phase, c.last);
-            lines += &self.orders(false, k + 1);
-            lines += &self.orders(true, k + 1);
-        }
-        for (k, a) in s.accounts[..s.accountcount].iter().enumerate() {
-            lines += &format!("account {} {} {}\n", k + 1, a.balance, a.maker);
-            for (c, h) in a.holdings[..s.contractcount].iter().enumerate() {
-                lines += &format!("holding {} {} {} {} {} {}\n", k + 1, c + 1, h.long, h.short, h.startlong, h.startshort);
-            }
-        }
-        for (_, t) in self.trades_from(0) {
-            let [contract, buyer, seller] = [t[0], t[5], t[6]].map(|place| place + 1);
-            lines += &format!("trade {contract} {} {} {} {} {buyer} {seller} {} {}\n", t[1], t[2], t[3], t[4], t[7], t[8]);
-        }
-        lines + &format!("next {} {} {}\n", s.next, s.nextstamp, s.settlements)
+fn settlement_lines(settlement: &Settlement) -> String {
+    let mut lines = String::new();
+    for (c, price) in settlement.prices.iter().enumerate() {
+        lines += &format!("P {} {price}\n", c + 1);
     }
+    for (a, account) in settlement.accounts.iter().enumerate() {
+        lines += &format!("B {} {} {} {} {}\n", a + 1, account.closing, account.holding, account.balance, account.charged);
+    }
+    lines
+}
 
-    /// One side's resting orders, best first.
-    fn orders(&self, sell: bool, contract: usize) -> String {
-        let part = zelvorm::side(self.state, &self.buys, &self.sells, sell, contract);
-        let (area, side) = if sell { (&self.sells, "sell") } else { (&self.buys, "buy") };
-        let line = |o: &[u32]| {
-            format!("{side} {contract} {} {} {} {} {} {} {}\n", o[1], o[2] + 1, o[0], o[3], o[4], o[5], o[6])
-        };
-        area[part.first..part.first + part.words].chunks_exact(zelvorm::ORDER_STRIDE).map(line).collect()
+/// An exchange in lines. Their fields are those of the records in zelvorm.rs; accounts and contracts are numbered from 1.
+fn state_lines(exchange: &Exchange) -> String {
+    let mut lines = String::new();
+    for (k, c) in exchange.contracts().enumerate() {
+        let t = c.terms;
+        let terms = format!("{} {} {} {} {} {} {}", t.multiplier, t.tick, t.reference, t.band, t.limit, t.rate, t.method as u16);
+        lines += &format!("contract {} {terms} {} {}\n", k + 1, c.phase as u32, c.last);
+        lines += &order_lines(exchange, Side::Buy, "buy", k + 1);
+        lines += &order_lines(exchange, Side::Sell, "sell", k + 1);
     }
+    for (k, a) in exchange.accounts().enumerate() {
+        lines += &format!("account {} {} {}\n", k + 1, a.balance, u8::from(a.is_maker));
+        for (c, h) in a.holdings.iter().enumerate() {
+            lines += &format!("holding {} {} {} {} {} {}\n", k + 1, c + 1, h.long, h.short, h.start_long, h.start_short);
+        }
+    }
+    for t in exchange.trades() {
+        let closes = format!("{} {}", is_close(t.buy_effect), is_close(t.sell_effect));
+        let orders = format!("{} {} {} {}", t.buy_order, t.sell_order, t.buyer, t.seller);
+        lines += &format!("trade {} {} {} {orders} {closes}\n", t.contract, t.price, t.lots);
+    }
+    let (state, ..) = exchange.parts();
+    lines + &format!("next {} {} {}\n", state.next, state.nextstamp, state.settlements)
+}
+
+/// One side's resting orders, best first.
+fn order_lines(exchange: &Exchange, side: Side, name: &str, contract: usize) -> String {
+    let mut lines = String::new();
+    for o in exchange.orders(side, contract) {
+        let marks = format!("{} {} {}", is_close(o.effect), o.stamp, u8::from(o.is_quote));
+        lines += &format!("{name} {contract} {} {} {} {} {marks}\n", o.number, o.account, o.price, o.lots);
+    }
+    lines
+}
+
+fn is_close(effect: Effect) -> u8 {
+    u8::from(effect == Effect::Close)
 }
 
 // ---- What the host is asked to do ----
@@ -547,19 +507,15 @@ fn give(bytes: &[u8]) -> Done<()> {
 
 fn begin(path: &Path, file_path: &Path) -> Done<()> {
     let mut file = std::fs::read(file_path).told(|e| format!("{}: {e}", file_path.display()))?;
-    let exchange = Exchange::new();
-    let opened = zelvorm::open(&file);
     let mut origin = FROM_DAY_FILE;
-    if opened.code == zelvorm::CODE_ACCEPTED {
-        file.truncate(opened.first);
-        put_number(&mut file, opened.first - zelvorm::COUNT_WIDTH, 0);
+    if let Ok(day) = Exchange::open(&file) {
+        file.truncate(file.len() - raw::COMMAND_WIDTH * day.commands.len());
+        let count_at = file.len() - raw::COUNT_WIDTH;
+        put_number(&mut file, count_at, 0);
     } else {
         origin = FROM_SAVED_STATE;
-        let code = zelvorm::read(&file, exchange.state, &exchange.buys, &exchange.sells, &exchange.trades).code;
-        if code != zelvorm::CODE_ACCEPTED {
-            let words = zelvorm::code_words(code);
-            return stop(format!("{} is neither a day file nor a saved state, code {code}: {words}", file_path.display()));
-        }
+        let read = Exchange::read(&file);
+        read.map_err(|refusal| Stop(format!("{} is neither a day file nor a saved state, {refusal}", file_path.display())))?;
     }
     match std::fs::create_dir(path) {
         Err(e) if e.kind() != ErrorKind::AlreadyExists => return stop(format!("{} cannot be made: {e}", path.display())),
@@ -574,12 +530,12 @@ fn begin(path: &Path, file_path: &Path) -> Done<()> {
 }
 
 /// The next command of standard input, if there is one.
-fn read_command(number: u32) -> Done<Option<Vec<u8>>> {
+fn read_command(number: u32) -> Done<Option<[u8; raw::COMMAND_WIDTH]>> {
     let mut command = Vec::new();
-    let read = io::stdin().lock().take(zelvorm::COMMAND_WIDTH as u64).read_to_end(&mut command);
+    let read = io::stdin().lock().take(raw::COMMAND_WIDTH as u64).read_to_end(&mut command);
     match read.told(|e| format!("standard input cannot be read: {e}"))? {
         0 => Ok(None),
-        zelvorm::COMMAND_WIDTH => Ok(Some(command)),
+        raw::COMMAND_WIDTH => Ok(command.try_into().ok()),
         count => stop(format!("the input ends with {count} bytes that are no command; command {number} is the next one")),
     }
 }
@@ -592,16 +548,16 @@ fn tell_earlier_days(folder: &Folder, last: &Journal, told: u32) -> Done<()> {
         first = Journal::open(folder, day, false)?.first;
     }
     for day in day..last.day {
-        let mut journal = Journal::open(folder, day, false)?;
+        let journal = Journal::open(folder, day, false)?;
         journal.check_engine()?;
-        Exchange::new().play(&mut journal, told)?;
+        Day::played(journal, told)?;
     }
     Ok(())
 }
 
 fn serve(path: &Path, told: u32) -> Done<()> {
     let folder = Folder::open(path)?;
-    let mut journal = folder.last_journal()?;
+    let journal = folder.last_journal()?;
     if told > journal.next() && told != NOTHING_TOLD {
         return stop(format!(
             "{} ends with command {}, and answers from {told} on are asked for: something answered is not here; nothing \
@@ -611,26 +567,23 @@ fn serve(path: &Path, told: u32) -> Done<()> {
         ));
     }
     tell_earlier_days(&folder, &journal, told)?;
-    let mut exchange = Exchange::new();
-    exchange.play(&mut journal, told)?;
+    let mut day = Day::played(journal, told)?;
     loop {
-        if exchange.state.settlements > journal.settled {
-            journal = exchange.begin_next_day(&folder, journal)?;
+        if day.is_over() {
+            day = day.next_day(&folder)?;
         }
-        let next = journal.next();
+        let next = day.journal.next();
         give(format!("N {next}\n").as_bytes())?;
         let Some(command) = read_command(next)? else { return Ok(()) };
-        journal.append(&command)?;
-        exchange.carry_out(next, &command)?;
+        day.journal.append(&command)?;
+        day.carry_out(next, &command)?;
     }
 }
 
 fn show_state(path: &Path) -> Done<()> {
     let folder = Folder::open(path)?;
-    let mut journal = folder.last_journal()?;
-    let mut exchange = Exchange::new();
-    exchange.play(&mut journal, NOTHING_TOLD)?;
-    give(format!("{}N {}\n", exchange.lines(), journal.next()).as_bytes())
+    let day = Day::played(folder.last_journal()?, NOTHING_TOLD)?;
+    give(format!("{}N {}\n", state_lines(&day.exchange), day.journal.next()).as_bytes())
 }
 
 fn show_day_file(path: &Path) -> Done<()> {
@@ -640,13 +593,13 @@ fn show_day_file(path: &Path) -> Done<()> {
         return stop(format!("{} began with a saved state, so that it is no day file", journal.name));
     }
     let count = journal.commands as usize;
-    if count > zelvorm::MAX_COMMANDS {
-        return stop(format!("{} has {count} commands, and a day file has at most {}", journal.name, zelvorm::MAX_COMMANDS));
+    if count > raw::MAX_COMMANDS {
+        return stop(format!("{} has {count} commands, and a day file has at most {}", journal.name, raw::MAX_COMMANDS));
     }
     let mut file = journal.beginning.clone();
-    let count_at = file.len() - zelvorm::COUNT_WIDTH;
+    let count_at = file.len() - raw::COUNT_WIDTH;
     put_number(&mut file, count_at, journal.commands);
-    file.extend(journal.read_commands(0, count)?);
+    file.extend(journal.read_commands(0, count)?.as_flattened());
     give(&file)
 }
 

@@ -62,7 +62,7 @@ class Book:
         """For each code the lessons that give it, with the command in words: code -> [(lesson, number, words)]."""
         found = defaultdict(list)
         for name, path in self.lessons.items():
-            if not re.match(r"\d\d-|every-code", name):
+            if not re.match(r"\d\d-|every-code", name) or not path.with_suffix(".day").exists():
                 continue
             played = lesson.read(str(path))
             for line in path.with_suffix(".out").read_text().splitlines():
