@@ -93,6 +93,8 @@ NO_LESSONS = {
     "statement": "no text, and so no lesson: a client statement",
     "state-text": "the text of a saved state, which tools/statetext.py reads",
     "continued": "a lesson that begins from a saved state, which has no day file: ./zelvorm takes it",
+    "calls": "a lesson of library calls, which has no day file: ./zelvorm practice plays it",
+    "clients": "a broker's clients, for ./zelvorm statement",
 }
 
 DAY_RUNNER = Path(__file__).resolve().parents[1] / "target" / "bin" / "dayrun"

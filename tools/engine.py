@@ -47,6 +47,15 @@ class Asked(NamedTuple):
     read: int
 
 
+class Answered(NamedTuple):
+    """One answer of a bundle."""
+
+    code: int
+    number: int
+    traded: int
+    lots: int
+
+
 def is_current():
     """Whether the library is built, and from the sources as they are."""
     return LIBRARY.is_file() and subprocess.run([BUILD, "current"], capture_output=True).returncode == 0
@@ -160,3 +169,38 @@ class Engine:
         """How many lots of an insert would trade now."""
         found = self.calls.zelvorm_gettable(self.state, *self.areas(), zelvorm.Record(*command))
         return Asked(found.code, found.lots, found.read)
+
+    def bundle(self, commands):
+        """Ticket 1: all commands in one call. The code of the whole bundle, and an answer for each command where it is 0."""
+        records = b"".join(bytes(zelvorm.Record(*command)) for command in commands)
+        places = zelvorm.words(zelvorm.ANSWER_STRIDE * len(commands))
+        given = self.calls.zelvorm_bundle(self.state, *self.areas(), *lent(records), *lent(places))
+        self.state = given.state
+        found = [Answered(*places[at : at + zelvorm.ANSWER_STRIDE]) for at in range(0, len(places), zelvorm.ANSWER_STRIDE)]
+        return given.code, found if given.code == 0 else []
+
+    def statement(self, account, clients, starts, postings):
+        """Ticket 9: the bytes of a statement. `starts` are eight words a client, `postings` two words a posting."""
+        out = zelvorm.room(STATEMENT_MOST)
+        given = self.calls.zelvorm_client_statement(
+            self.state, *self.areas(), account, clients, *lent(filled(starts)), *lent(filled(postings)), *lent(out)
+        )
+        if given.code != 0:
+            raise Refused(given.code)
+        return bytes(out[: given.length])
+
+
+def filled(numbers):
+    """An area of words with these in it."""
+    area = zelvorm.words(len(numbers))
+    area[:] = numbers
+    return area
+
+
+def mend(calls, file):
+    """Ticket 11: the mended file, and the list of what is dropped, as bytes."""
+    out, listed = zelvorm.room(len(file) + 4), zelvorm.room(8 + 9 * (len(file) // 24 + 1))
+    given = calls.zelvorm_mend(*lent(file), *lent(out), *lent(listed))
+    if given.code != 0:
+        raise Refused(given.code)
+    return bytes(out[: given.length]), bytes(listed[: given.listed])

@@ -45,11 +45,14 @@ def is_text(content):
 
 # The lines that only the text of a state has, and a lesson that begins from one.
 STATE_LINES = ("holding", "settlements")
+# The lines that call the library, which only a lesson of calls has; of these a broker's clients are made of some alone.
+CLIENT_LINES = ("client", "post", "statement")
+CALL_LINES = ("ask", "bundle", "mend", "tomorrow", *CLIENT_LINES)
 
 
 def kind(content, first_words):
-    """One of empty, sound, broken, lesson, continued, state-text, state, statement and other, and what there is to say about
-    it. A lesson's line has one of the first words."""
+    """One of empty, sound, broken, lesson, continued, calls, clients, state-text, state, statement and other, and what there
+    is to say about it. A lesson's line has one of the first words."""
     if not content:
         return "empty", "no bytes"
     for beginning, what in BEGINNINGS:
@@ -92,6 +95,8 @@ def statement_kind(content):
 
 def text_kind(text, first_words):
     """A text is a lesson where its first line that says something begins as a lesson's lines do, or nearly so."""
+    if text.lstrip().startswith("client,"):
+        return "clients", "a broker's clients and postings, as a table"
     firsts = []
     for number, line in enumerate(text.split("\n"), 1):
         words = line.partition("#")[0].split()
@@ -100,12 +105,16 @@ def text_kind(text, first_words):
         if not firsts:
             if words[0] in FIELDS and all(word.lstrip("-").isdecimal() for word in words[1:]):
                 return "other", "a day runner's lines, which tools/lines.py reads"
-            if not meant(words[0], first_words):
+            if words[0] not in CALL_LINES and not meant(words[0], first_words):
                 return "other", f"a text, but no lesson: line {number} begins with '{words[0][:40]}'"
             first_line = number
         firsts.append(words[0])
     if not firsts:
         return "other", "a text that says nothing"
+    if all(first in CLIENT_LINES for first in firsts):
+        return "clients", "a broker's clients and postings"
+    if any(first in CALL_LINES for first in firsts):
+        return "calls", "a lesson of library calls"
     if not any(first in STATE_LINES for first in firsts):
         return "lesson", f"its first line is line {first_line}"
     if firsts[-1] in STATE_LINES:

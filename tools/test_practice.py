@@ -278,7 +278,7 @@ class Terminal(unittest.TestCase):
 
     def test_a_session(self):
         self.start()
-        self.type("sta\t1 cont\t\r")  # completion
+        self.type("state 1 cont\t\r")  # completion
         self.wait_for("Contract 1 goes from pre-open to continuous.")
         self.type("insert 1 contract 1 sell open limit 102 lots 5 dya\x7f\x7fay\r")  # editing
         self.wait_for("#1 of account 1: 5")

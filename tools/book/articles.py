@@ -168,7 +168,7 @@ def lesson_articles(book):
     shown = {identity.removeprefix("lesson-") for identity in book.cited_in if identity.startswith("lesson-")}
     shown |= {name for commands in book.code_commands.values() for name, _, _ in commands}
     return "".join(
-        article(f"lesson-{name}", escaped(name), f"samples/{name}.txt", f"<pre>{escaped(path.read_text(encoding='utf-8'))}</pre>", book)
+        article(f"lesson-{name}", escaped(name), str(path.relative_to(book.top)), f"<pre>{escaped(path.read_text(encoding='utf-8'))}</pre>", book)
         for name, path in book.lessons.items()
         if name in shown
     )

@@ -19,7 +19,9 @@ MOST_COMMANDS = 3
 class Book:
     def __init__(self, top, papers=None):
         self.sources = Sources(top)
-        self.lessons = {path.stem: path for path in sorted((Path(top) / "samples").glob("*.txt"))}
+        self.top = Path(top)
+        samples = self.top / "samples"
+        self.lessons = {path.stem: path for path in [*sorted(samples.glob("*.txt")), *sorted(samples.glob("calls/[0-9]*.txt"))]}
         rules = (Path(top) / "docs" / "RULES.md").read_text(encoding="utf-8")
         self.sections = read_sections(rules, self.sources, self.lessons)
         self.rows = [row for section in self.sections for row in section.rows]
@@ -50,7 +52,7 @@ class Book:
     def definitions_of_lessons(self, path):
         """The lessons that samples/README.md names for each definition."""
         found = defaultdict(list)
-        for name, cell in re.findall(r"(?m)^\| `([\w-]+)` \| [^|]* \| ([^|]*) \|$", path.read_text(encoding="utf-8")):
+        for name, cell in re.findall(r"(?m)^\| `(?:calls/)?([\w-]+)` \| [^|]* \| ([^|]*) \|$", path.read_text(encoding="utf-8")):
             for file, words in re.findall(r"(\w+): ((?:`[^`]+`(?:, )?)+)", cell):
                 for word in re.findall("`([^`]+)`", words):
                     item = self.sources.find(word, file)

@@ -23,7 +23,8 @@ class Command(NamedTuple):
 
 FILE_KINDS = """Files. A lesson is a text, one contract, account or command on a line, with what its writer expects behind =>. A
 day file is the same in the engine's bytes. A lesson may also begin from a saved state, which a day leaves after its settlement:
-that is a second day. Each command tells these apart by their content, and says what to do with a file that it has no use for.
+that is a second day; a lesson of library calls has lines that go beyond a day file (ask, bundle, tomorrow, client, post,
+statement, mend). Each command tells these apart by their content, and says what to do with a file that it has no use for.
 FILE may be - for standard input."""
 
 COMMANDS = (
@@ -113,6 +114,51 @@ COMMANDS = (
         "./zelvorm worksheet samples/03-middle-price.txt > worksheet.html",
         (Option("--answers", "", "with the answers"),),
         ("*.txt",),
+    ),
+    Command(
+        "mend",
+        "FILE [TO]",
+        "a day file that was cut or damaged, mended",
+        "Drops what is malformed, partial or surplus among the commands, and tells each record that is dropped with its reason (ticket"
+        " 11). Contracts and accounts must be whole: otherwise the status is 20. The mended file goes to TO; without TO nothing is"
+        " written, and only what would be dropped is told. The file itself stays as it is.",
+        "./zelvorm mend samples/calls/cut-in-transfer.day mended.day",
+        files=("*.day",),
+    ),
+    Command(
+        "statement",
+        "LESSON CLIENTS",
+        "a broker's statement for its clients, every figure worked out",
+        "LESSON is played up to its last settlement, or to its end where it settles nothing. CLIENTS is a text or CSV: the clients with"
+        " their lots at the start of the day, and which order is posted to whom (tools/calls/clients.py has both forms). A refusal"
+        " ends with its code, 2 or 25 to 27 (ticket 9).",
+        "./zelvorm statement samples/calls/broker-day.txt samples/calls/broker-clients.txt",
+        (
+            Option("--account", "N", "whose statement, where CLIENTS does not say"),
+            Option("--form", "FORM", "text, csv or json (text)"),
+            Option("--save", "TO", "the statement's own bytes, to this file"),
+        ),
+        ("*.txt", "*.day", "*.csv"),
+    ),
+    Command(
+        "state",
+        "FILE",
+        "a saved state, or the state that a lesson leaves",
+        "As text, which a lesson may begin with. Of a lesson or a day file it is the state after the last command, saved by the library"
+        " (ticket 10); where it cannot be saved, it says why, and the status is 28.",
+        "./zelvorm state samples/continued/first-day.txt --save tomorrow.state",
+        (Option("--save", "TO", "the saved state's own bytes, to this file"),),
+        ("*.txt", "*.day", "*.state"),
+    ),
+    Command(
+        "bundle",
+        "LESSON",
+        "commands of a lesson in one call",
+        "The commands from --from to --to go to the library in one bundle of up to 100 (ticket 1), those before them singly. Every"
+        " answer is the one that the command gets singly, which is compared.",
+        "./zelvorm bundle samples/paper-example.txt --from 2 --to 6",
+        (Option("--from", "N", "the first command of the bundle (1)"), Option("--to", "N", "the last one (the lesson's last)")),
+        LESSONS,
     ),
     Command(
         "lines",

@@ -6,7 +6,7 @@ import re
 import subprocess
 import sys
 
-from front import TOOLS, TOP, commands, completions, doctor, files, helptexts
+from front import TOOLS, TOP, checking, commands, completions, doctor, files, helptexts, librarycalls
 from front.statuses import (
     BROKEN,
     DONE,
@@ -150,11 +150,15 @@ DOES = {
     "explain": explained,
     "page": paged,
     "practice": lambda arguments: prompt.run(arguments.file, shown),
-    "check": lambda arguments: files.check(arguments, write),
+    "check": lambda arguments: checking.check(arguments, write),
     "what": lambda arguments: files.what(arguments, write),
     "pack": lambda arguments: files.pack(arguments, note),
     "unpack": lambda arguments: files.unpack(arguments, note),
     "worksheet": worksheet,
+    "mend": lambda arguments: librarycalls.mend(arguments, note),
+    "statement": lambda arguments: librarycalls.statement_of(arguments, write),
+    "state": lambda arguments: librarycalls.state_of(arguments, write),
+    "bundle": lambda arguments: librarycalls.bundle(arguments, write),
     "lines": tabled,
     "compare": compared,
     "rulebook": rulebook,

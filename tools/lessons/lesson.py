@@ -27,6 +27,8 @@ NO_LESSONS = {
     "state": "a saved state, without commands: ./zelvorm state shows it",
     "state-text": "the text of a saved state, without commands: write some behind it",
     "statement": "a client statement: ./zelvorm unpack shows it",
+    "calls": "a lesson of library calls: ./zelvorm practice < FILE plays and explains it",
+    "clients": "a broker's clients: ./zelvorm statement takes them with a lesson",
 }
 # How much of what is wrong in a text is told; `daytext.py check` tells all.
 MOST_FAULTS = 10

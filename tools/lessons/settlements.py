@@ -118,31 +118,41 @@ def trade_numbers(trades):
 
 
 def lots_of_the_day(state, account, number, price):
-    """By Article 32: the account's lots that were closed today and those still held, in one contract.
+    """By Article 32: the account's lots that were closed today and those still held, in one contract."""
+    at_start = {held: state.holdings_at_start[account, number, held] for held in ("long", "short")}
+    legs = [
+        (trade_number, trade, leg)
+        for trade_number, trade in enumerate(state.trades, 1)
+        for leg in trade.legs()
+        if (leg.account, trade.contract) == (account, number)
+    ]
+    closed, holding = lots_by_legs(state.contracts[number], at_start, legs, price)
+    gains = gains_of(state.contracts[number], closed, holding)
+    check(f"profit of account {account} in contract {number}", gains, model.profit(state, account, number, price))
+    return put_together(closed), put_together(holding)
+
+
+def lots_by_legs(contract, at_start, legs, price):
+    """The lots that legs of one contract have closed, and those still held. A leg is (number of its trade, trade, leg).
     "Closes use start-of-day lots first, then today's in trade order (house)": they take from the front of the line."""
-    contract = state.contracts[number]
-    lines = {}
-    for held in ("long", "short"):
-        at_start = state.holdings_at_start[account, number, held]
-        lines[held] = deque([(at_start, contract.reference, ())] if at_start else [])
+    lines = {held: deque([(lots, contract.reference, ())] if lots else []) for held, lots in at_start.items()}
     closed = []
-    for trade_number, trade in enumerate(state.trades, 1):
-        for leg in trade.legs():
-            if (leg.account, trade.contract) != (account, number):
-                continue
-            held = model.HELD[leg.side, leg.effect]
-            if leg.effect == "open":
-                lines[held].append((trade.lots, trade.price, (trade_number,)))
-            else:
-                closed += closed_lots(held, lines[held], trade, trade_number)
+    for trade_number, trade, leg in legs:
+        held = model.HELD[leg.side, leg.effect]
+        if leg.effect == "open":
+            lines[held].append((trade.lots, trade.price, (trade_number,)))
+        else:
+            closed += closed_lots(held, lines[held], trade, trade_number)
     holding = [
         Lots(held, lots, counted_from, opened, price, ())
         for held, line in lines.items()
         for lots, counted_from, opened in line
     ]
-    gains = tuple(sum(part.gain() for part in parts) * contract.multiplier for parts in (closed, holding))
-    check(f"profit of account {account} in contract {number}", gains, model.profit(state, account, number, price))
-    return put_together(closed), put_together(holding)
+    return closed, holding
+
+
+def gains_of(contract, closed, holding):
+    return tuple(sum(part.gain() for part in parts) * contract.multiplier for parts in (closed, holding))
 
 
 def closed_lots(held, line, trade, trade_number):

@@ -1,6 +1,6 @@
 #!/usr/bin/env python3
 """Makes the sample day files and their expected outputs again from the sample texts, and the broken files; of the lesson
-over two days the state between them too."""
+over two days the state between them too, and a file to be mended."""
 
 import sys
 from pathlib import Path
@@ -26,6 +26,7 @@ def made_files():
         files[text.with_suffix(".out")] = model.run(file)
     files.update(continued_files(SAMPLES / "continued"))
     example = dayfile.read(files[SAMPLES / "paper-example.day"])
+    files[SAMPLES / "calls" / "cut-in-transfer.day"] = cut_in_transfer(example)
     for name, file in broken_files(example).items():
         files[SAMPLES / "broken" / f"{name}.day"] = file
     return files
@@ -43,7 +44,13 @@ def continued_files(folder):
     }
 
 
-MADE = ("*.day", "*.out", "broken/*", "continued/*.day", "continued/*.out", "continued/*.state")
+def cut_in_transfer(example):
+    """The paper's day with a record in it that has no kind, and without its last 5 bytes."""
+    commands = [*example.commands[:3], dayfile.Command(10, 1, 1), *example.commands[3:]]
+    return dayfile.write(example._replace(commands=commands))[:-5]
+
+
+MADE = ("*.day", "*.out", "broken/*", "calls/*.day", "continued/*.day", "continued/*.out", "continued/*.state")
 
 
 def files_present():

@@ -14,8 +14,7 @@ import saved
 import statetext
 import textfiles
 from lessons.lesson import Unusable
-from lessons.refusals import REFUSALS
-from practice import answers, session, typed
+from practice import answers, calls, session, typed
 from words import Words, Wrong, listed
 
 PROMPT = "> "
@@ -40,6 +39,9 @@ class Practice:
         self.lesson = []  # the commands of the named lesson that are left, with their texts
         self.last_answer = None  # the command that an expectation would be of, as lines.Command
         self.expected = []  # what is expected of it, and not judged yet
+        self.figures = None  # the figures of the last call beyond a command, by name, which an expectation would be of
+        self.clients = calls.no_clients()
+        self.bundled = None  # within a bundle: its steps so far
         self.met = self.unmet = self.not_understood = 0
 
     # --- Beginning ---
@@ -106,13 +108,16 @@ class Practice:
             except Unusable as unusable:
                 self.write(f"  {unusable}")
             return True
-        if first and first not in daytext.LINES and typed.near_word(first):
+        known = (*daytext.LINES, *filekinds.STATE_LINES, "=>")
+        if first and first not in known and typed.near_word(first):
             self.misunderstood(f"'{first}': did you mean {typed.near_word(first)}?")
             return True
         try:
             self.take_lesson_line(line)
         except Unusable as unusable:
             self.misunderstood(str(unusable))
+        except Wrong as wrong:
+            self.note_column(wrong.column, str(wrong))
         return True
 
     def misunderstood(self, words):
@@ -143,6 +148,9 @@ class Practice:
         if self.is_state_line(line):
             self.take_state_line(line)
             return
+        if self.bundled is not None and typed.first_word(line) == "end" and not self.reader.repeat_start:
+            self.end_bundle(line)
+            return
         first = typed.first_word(line)
         is_command = first in daytext.COMMANDS
         if is_command and self.session is None and not self.reader.contracts:
@@ -160,22 +168,25 @@ class Practice:
             del self.reader.steps[steps:]
             return
         for step in new:
+            if self.bundled is not None:
+                self.bundled.append(step)
+                continue
             self.judge()  # within a repeat
             self.carry_out(step.command)
             self.expected = list(step.expected)
-        if not new and had is self.reader.last_step and self.last_answer and had:
+        if self.bundled is None and not new and had is self.reader.last_step and self.last_answer and had:
             # Expectations on a line of their own.
             self.expected += had.expected[known:]
 
     def carry_out(self, command):
         if self.session is None:
-            day = daytext.dayfile.DayFile(self.reader.contracts, self.reader.balances, [])
-            self.session = session.opened(self.exchange, day)
-        step = self.session.carry_out(command)
+            self.begin_session()
+        self.show(self.session.carry_out(command))
+
+    def show(self, step):
         self.last_answer = lines.read_run(answers.run_of(step)).commands[0]
         for row in answers.answer_text(step):
             self.write(row)
-        return step
 
     def judge(self):
         """Tells whether the last answer is as expected, once all that is expected of it was read."""
@@ -193,12 +204,52 @@ class Practice:
     # --- The words of practice ---
 
     def take_word(self, first, line):
-        words = Words(line.partition("#")[0], lambda column, message: self.misunderstood(f"column {column}: {message}"))
+        said, arrow, _ = line.partition("#")[0].partition("=>")
+        words = Words(said, self.note_column)
         words.take("a word")
         if first not in ("help", "save") and self.session is None:
-            raise Unusable("nothing has begun: type a contract and an account, or a command")
+            self.begin_session()
+        self.figures = None
         getattr(self, f"do_{first}")(words)
+        if arrow:
+            self.hold_figures(first, Words(line.partition("#")[0], self.note_column, len(said) + len(arrow)))
         return True
+
+    def note_column(self, column, message):
+        self.misunderstood(f"column {column}: {message}")
+
+    def begin_session(self):
+        """With the contracts and accounts that were typed."""
+        if not self.reader.contracts:
+            raise Unusable("nothing has begun: type a contract and an account, or a command")
+        self.session = session.opened(self.exchange, daytext.dayfile.DayFile(self.reader.contracts, self.reader.balances, []))
+
+    def call(self, made):
+        """Shows what a call answers, and keeps its figures for what is expected of it."""
+        self.figures, told = made
+        for row in told:
+            self.write(f"  {row}".rstrip())
+
+    def hold_figures(self, first, words):
+        """What is expected of a call, held to its figures."""
+        if first not in calls.EXPECTED_OF or self.figures is None:
+            raise Wrong(words.column(), f"=> behind {first}, of which nothing is expected")
+        wrong = []
+        expected = list(calls.read_expected(words, first))
+        for name, value in expected:
+            found = self.figures.get(name)
+            if found == value:
+                self.met += 1
+            else:
+                wrong.append(f"{name}: {'none' if found is None else found} where {value} is expected")
+        code = self.figures.get("code", 0)
+        if code and "code" not in dict(expected):
+            wrong = [f"code {code} where it is expected to be accepted"]
+        self.unmet += len(wrong)
+        for each in wrong:
+            self.write(f"  NOT AS EXPECTED: {each}")
+        if not wrong:
+            self.write("  as expected")
 
     def do_help(self, words):
         self.write("  the lesson language's own lines (tools/daytext.py --help), and:")
@@ -206,16 +257,49 @@ class Practice:
             self.write(f"  {f'{word} {behind}'.strip():<48} {what}")
 
     def do_ask(self, words):
-        if words.next() == "insert":
-            words.take("insert")
-        command = daytext.read_insert(words)
+        self.call(calls.ask(self.session, words))
+
+    def do_client(self, words):
+        self.clients.read_words(self.again("client", words))
+        self.write(f"  client {len(self.clients.starts)}")
+
+    def do_post(self, words):
+        self.clients.read_words(self.again("post", words))
+
+    def again(self, first, words):
+        """The words with their first one, which was taken."""
+        words.words.insert(0, (1, first))
+        return words
+
+    def do_statement(self, words):
+        self.call(calls.statement_of(self.session, self.clients, words))
+        self.clients = calls.no_clients()
+
+    def do_mend(self, words):
+        self.call(calls.mend(self.session, words))
+
+    def do_bundle(self, words):
         words.end()
-        found = self.session.ask(command)
-        if found.code:
-            self.write(f"  refused, code {found.code}: {REFUSALS[found.code][0]}")
-            return
-        orders = "1 resting order is" if found.read == 1 else f"{found.read} resting orders are"
-        self.write(f"  {found.lots:,} of {command.lots:,} would trade now; {orders} read to know it. Nothing is sent.")
+        self.session.need_library("a bundle")
+        self.bundled = []
+
+    def end_bundle(self, line):
+        """The bundle's end: all its commands are sent in one call."""
+        said, arrow, _ = line.partition("#")[0].partition("=>")
+        steps, self.bundled = self.bundled, None
+        held = iter(steps)
+
+        def show(step):
+            self.judge()
+            self.show(step)
+            self.expected = list(next(held).expected)
+
+        self.figures, told = calls.bundle(self.session, [step.command for step in steps], show)
+        self.judge()
+        for row in told:
+            self.write(f"  {row}")
+        if arrow:
+            self.hold_figures("bundle", Words(line.partition("#")[0], self.note_column, len(said) + len(arrow)))
 
     def do_book(self, words):
         contracts = self.session.state().contracts
@@ -281,13 +365,10 @@ class Practice:
             self.do_next(Words("", lambda column, message: None))
 
     def do_tomorrow(self, words):
-        words.end()
-        file, why = self.session.tomorrow()
-        if file is None:
-            raise Unusable(why)
-        self.lesson = []
-        self.write(f"  saved in {len(file)} bytes and read again. Day {self.session.day()} begins: pre-open, order numbers from 1,")
-        self.write("  holdings, balances and the last price as they were.")
+        self.call(calls.tomorrow(self.session, words))
+        if not self.figures["code"]:
+            self.lesson = []
+            self.write("  Contracts are in pre-open, order numbers begin from 1; holdings, balances and the last price are as they were.")
 
     def do_save(self, words):
         _, path = words.take("a file's name")

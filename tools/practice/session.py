@@ -7,6 +7,7 @@ the whole state that the library has after each command; where the two differ th
 import copy
 import dataclasses
 
+import baskets
 import dayfile
 import engine
 import model
@@ -78,6 +79,27 @@ class Session:
         self.steps.append(step)
         return step
 
+    def bundle(self, commands):
+        """Ticket 1: all commands in one call. The code, and the steps that the model has for the commands given singly, whose
+        answers and state the library's must be."""
+        self.need_library("a bundle")
+        expected = 22 if len(commands) > baskets.MOST_IN_A_BUNDLE else 0
+        self.keep()
+        first = self.player.number + 1
+        alone = self.exchange.copied()
+        code, found = self.exchange.bundle(commands)
+        if code != expected:
+            raise Differs(f"the library answers a bundle of {len(commands)} by code {code}, the model by {expected}")
+        steps = []
+        for number, (command, answer) in enumerate(zip(commands, found), first):
+            steps.append(self.player.step(command, alone.execute(number, command)))
+            given = steps[-1].answer
+            if tuple(answer) != (given.code, given.order_number, given.lots_traded, given.lots_rested_or_removed):
+                raise Differs(f"in the bundle the answer to command {number} is {tuple(answer)}, singly it is another")
+        self.check_state()
+        self.steps += steps
+        return code, steps
+
     def keep(self):
         """What undo goes back to."""
         begun = (self.opening, self.begins_from_state)
@@ -114,15 +136,27 @@ class Session:
             raise Differs(f"asked, the library says {tuple(found)} and the model {tuple(expected)}")
         return found
 
+    def day_file(self):
+        """The day so far as a day file."""
+        contracts = [
+            dayfile.ContractRecord(*(getattr(contract, name) for name in dayfile.ContractRecord._fields))
+            for contract in self.opening.contracts.values()
+        ]
+        balances = [
+            dayfile.maker(balance) if account in self.opening.makers else balance
+            for account, balance in self.opening.balances.items()
+        ]
+        return dayfile.write(dayfile.DayFile(contracts, balances, [step.command for step in self.steps]))
+
     def tomorrow(self):
-        """Saves the state and begins the next day from it. Gives the saved bytes, or why there are none."""
+        """Saves the state and begins the next day from it. The code, and what to say of it."""
         self.need_library("tomorrow")
         try:
             file = self.exchange.write()
         except engine.Refused as refused:
             if saved.is_writable(self.state()):
                 raise Differs(f"the library does not save a state that the model saves: {refused}") from None
-            return None, f"not yet: {refused}: {statetext.why_not_writable(self.state())}"
+            return refused.code, f"not yet: {refused}: {statetext.why_not_writable(self.state())}"
         if file != saved.state_bytes(self.state()):
             raise Differs("the library saves other bytes than the model")
         self.keep()
@@ -131,7 +165,7 @@ class Session:
         self.player = Player(self.opening)
         self.steps = []
         self.check_state()
-        return file, ""
+        return 0, f"saved in {len(file)} bytes and read again. Day {self.day()} begins"
 
 
 class saved_file(bytes):

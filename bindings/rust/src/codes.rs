@@ -88,12 +88,18 @@ impl fmt::Display for Refusal {
 impl std::error::Error for Refusal {}
 
 /// `made` where the code is 0.
+#[inline]
 pub(crate) fn accepted<T>(code: u32, made: impl FnOnce() -> T) -> Result<T, Refusal> {
-    match Refusal::of(code) {
-        None if code == raw::CODE_ACCEPTED => Ok(made()),
-        Some(refusal) => Err(refusal),
-        None => panic!("code {code} is none of version {}: library and crate are of two versions", raw::VERSION),
+    if code == raw::CODE_ACCEPTED {
+        Ok(made())
+    } else {
+        Err(refusal(code))
     }
+}
+
+fn refusal(code: u32) -> Refusal {
+    let unknown = || panic!("code {code} is none of version {}: library and crate are of two versions", raw::VERSION);
+    Refusal::of(code).unwrap_or_else(unknown)
 }
 
 #[cfg(test)]

@@ -120,6 +120,7 @@ impl NewOrder {
         NewOrder { account, contract, side, effect, price, lots, time }
     }
 
+    #[inline]
     fn flags(&self) -> u8 {
         let side = if self.side == Side::Sell { raw::FLAG_SELL } else { 0 };
         let effect = if self.effect == Effect::Close { raw::FLAG_CLOSE } else { 0 };
@@ -191,6 +192,7 @@ pub enum Command {
 const NOTHING: Record = Record { kind: 0, account: 0, contract: 0, flags: 0, lots: 0, price: 0, number: 0, amount: 0 };
 
 impl From<Command> for Record {
+    #[inline]
     fn from(command: Command) -> Record {
         match command {
             Command::Deposit { account, amount } => Record { kind: raw::KIND_DEPOSIT, account, amount, ..NOTHING },
@@ -246,6 +248,7 @@ impl TryFrom<Record> for Command {
 
 impl Record {
     /// Its 24 bytes, as they stand in a day file.
+    #[inline]
     pub fn to_bytes(&self) -> [u8; raw::COMMAND_WIDTH] {
         let mut bytes = [0; raw::COMMAND_WIDTH];
         bytes[..4].copy_from_slice(&[self.kind, self.account, self.contract, self.flags]);

@@ -429,7 +429,11 @@ fn answers_of(words: &[u32]) -> Vec<Result<Answer, Refusal>> {
 }
 
 pub(crate) fn bytes_of<C: Into<Record> + Copy>(commands: &[C]) -> Vec<u8> {
-    commands.iter().flat_map(|&command| command.into().to_bytes()).collect()
+    let mut bytes = Vec::with_capacity(raw::COMMAND_WIDTH * commands.len());
+    for &command in commands {
+        bytes.extend_from_slice(&command.into().to_bytes());
+    }
+    bytes
 }
 
 fn records(bytes: &[u8]) -> Vec<Record> {
