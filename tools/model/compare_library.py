@@ -4,7 +4,8 @@
     tools/model/compare_library.py target/library/libzelvorm.so --cases 5000 --seed 1
 
 First come the cases that were chosen by hand (`cases_*.py`), with each bound of "well formed" under each call, then random ones
-(`library_cases.py`): states that a day leads to, the same spoiled at a bound, states and areas of any bytes. Each area lies between two forbidden pages, so that a read or a write beyond
+(`library_cases.py`): states that a day leads to, the same spoiled at a bound, states and areas of any bytes, and day files whose lines
+are asked for part by part in buffers of different sizes. Each area lies between two forbidden pages, so that a read or a write beyond
 it ends the process; an area without elements is null now and then. Stops at the first difference, with status 1. It ends with the
 number of cases and the codes reached, call by call.
 """
