@@ -257,7 +257,7 @@ class Comparison:
         hold_bytes("the file", file, found["file"])
         hold_bytes("the lines", written + out[len(written) :], found["out"])
         hold("length, next and more", [len(written), following, more], [result.length, result.next, result.more])
-        hold("a step onward", True, not more or place < following)
+        hold("a step onward", True, place < following or not (more or written))
         self.hold_areas("zelvorm_lines", found)
         self.hold_state(result.state)
         self.before |= {area: found[area] for area in ("buys", "sells", "trades")}
