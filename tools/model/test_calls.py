@@ -185,7 +185,7 @@ class Statements(unittest.TestCase):
 class DayLines(unittest.TestCase):
     # However a day is cut into parts: together they are its output, and the state is the one that its commands lead to one by one.
     def test_the_parts_are_the_output(self):
-        for seed in range(6):
+        for seed in range(12):
             rng = random.Random(f"parts/{seed}")
             file = rng.choice((generate.trading_file, generate.auction_file, generate.changes_file, generate.quotes_file))(rng)
             commands = daylines.commands_of(file)
