@@ -3,6 +3,7 @@
 ghost use mathlib.Core.Path.{_≡_};
 ghost use mathlib.Core.List.{[], _∷_};
 ghost use Rattle.rules.specs.Command.{zeros, priceCondition, timeCondition, insertFlags, newOrder, depositOf, withdrawOf, insertOf, cancelOf, pullOf, phaseOf, settleOf, quoteOf, changeOf, commandOf, kindNumber, isMalformed, isSettle};
+ghost use Rattle.commands.specs.Accounts.{accountNumber, accountPlace};
 use rules::Command;
 use rules::NewOrder;
 use rules::PriceCondition;
@@ -320,4 +321,61 @@ pub fn is_settle(command: Command) -> bool
         Command::Settle => true,
         _ => false,
     }
+}
+
+// The number of the account that a command names, 0 where its kind names none.
+fn account_number(command: Command) -> u32
+    ensures { λ r. ⌜ r ≡ accountNumber command ⌝ }
+{
+    match command {
+        Command::Malformed => 0,
+        Command::Deposit { account, amount: _ } => account,
+        Command::Withdraw { account, amount: _ } => account,
+        Command::Insert(o) => o.account,
+        Command::Cancel {
+            account,
+            contract: _,
+            operator: _,
+            number: _,
+        } => account,
+        Command::Pull {
+            account,
+            contract: _,
+            operator: _,
+        } => account,
+        Command::Phase {
+            contract: _,
+            phase: _,
+        } => 0,
+        Command::Settle => 0,
+        Command::Quote {
+            account,
+            contract: _,
+            lots: _,
+            buy: _,
+            sell: _,
+        } => account,
+        Command::Change {
+            account,
+            contract: _,
+            number: _,
+            lots: _,
+            price: _,
+        } => account,
+    }
+}
+
+// The place of that account among so many, the first where it is none of them: whoever owns the state reads the account there and hands it
+// to the command's kind, since a call that reads one account of a state at a place that varies copies them all.
+pub fn account_place(command: Command, accounts: usize) -> usize
+    ensures { λ r. ⌜ r ≡ accountPlace (accountNumber command) accounts ⌝ }
+{
+    let number = account_number(command);
+    if number == 0 {
+        return 0;
+    }
+    if accounts < laws::wide(number) {
+        return 0;
+    }
+    laws::place_of(number)
 }

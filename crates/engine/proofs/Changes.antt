@@ -13,17 +13,22 @@ use Rattle.laws.specs.Choice.{pick}
 use Rattle.rules.specs.Answers.{changeListed, firstOf, phaseRefusals}
 use Rattle.rules.specs.Auction.{matchOf, unmatched}
 use Rattle.rules.specs.Bounds.{inAuction, maxTrades, phaseKnown}
-use Rattle.rules.specs.Exchange.{Listing, listingAt, noContract, Exchange, isAbsent}
+use Rattle.rules.specs.Exchange as exchange
+use Rattle.rules.specs.Exchange.{listingAt, noContract, Exchange, isAbsent}
 use Rattle.rules.specs.Kinds.{codeOf, done, kindOf}
-use Rattle.rules.specs.Memory.{Memory, WellFormedState, exchangeOf, listingIn, memory, stepIn, written}
+use Rattle.rules.specs.Memory.{Memory, WellFormedState, exchangeOf, listingIn, memory, written}
 use Rattle.rules.specs.Step.{phaseChanged, withPhase, answerOf, exchangeMatched, listingMatched, withContract, withListing}
 use Rattle.rules.specs.declared.Command.the-variants.{Phase}
 use Rattle.rules.specs.declared.State.{State}
-use Rattle.engine.specs.Outcome.{OutcomeIs, refusedWith, acceptedWith, withPhaseAt, isMatch}
+use Rattle.engine.specs.Decision.{DecisionIs, acceptedBy, listedIn, refusedBy}
+use Rattle.engine.specs.Outcome.{withPhaseAt, isMatch}
 use Rattle.rules.specs.Holdings.{bookTrades}
 use Rattle.rules.specs.Matching.{lastPrice}
 use Rattle.rules.proofs.Fillable.{traded-nil}
-use Rattle.engine.specs.declared.answers.Outcome.{Outcome}
+use Rattle.engine.specs.declared.updates.Decision.{Decision}
+use Rattle.engine.specs.declared.updates.Listed.{Listed}
+use Rattle.engine.specs.declared.updates.Update.the-variants.{Listing}
+use Rattle.engine.proofs.Decisions.{phased-decided, phasedAs, refusal-decided}
 use Rattle.engine.proofs.Formed.{Formed, formed, listing-at, no-contract}
 use Rattle.engine.proofs.Outcomes.{refusal, acceptance}
 use Rattle.engine.proofs.Puts.{put-contract, trades-count}
@@ -112,8 +117,8 @@ module _ {s : State} {buys sells trades : List ℕ} (w : WellFormedState s buys 
   f : Formed m
   f = formed w
 
-  abbrev ChangeIs : Outcome → Type 0
-  ChangeIs r = OutcomeIs (stepIn m (Phase contract phase)) r buys sells trades
+  abbrev ChangeIs : Decision → Type 0
+  ChangeIs d = DecisionIs m (Phase contract phase) d buys sells trades
 
   pub phase-code : codeOf (exchangeOf m) (Phase contract phase)
       ≡ pick (not (phaseKnown phase)) 1
@@ -123,13 +128,13 @@ module _ {s : State} {buys sells trades : List ℕ} (w : WellFormedState s buys 
   unfolding codeOf kindOf phaseRefusals firstOf
   phase-code = rw (no-contract m f contract, trades-count m f)
 
-  phase-refused : (code : ℕ) {r : Outcome} → 0 < code → codeOf (exchangeOf m) (Phase contract phase) ≡ code → r ≡ refusedWith s code → ChangeIs r
-  phase-refused code h = refusal s buys sells trades (Phase contract phase) code h
+  phase-refused : (code : ℕ) {d : Decision} → 0 < code → codeOf (exchangeOf m) (Phase contract phase) ≡ code → d ≡ refusedBy code → ChangeIs d
+  phase-refused code h e = refusal-decided (refusal s buys sells trades (Phase contract phase) code h e refl)
 
-  pub phase-unknown : {r : Outcome} → phaseKnown phase ≡ false → r ≡ refusedWith s 1 → ChangeIs r
+  pub phase-unknown : {d : Decision} → phaseKnown phase ≡ false → d ≡ refusedBy 1 → ChangeIs d
   phase-unknown e = phase-refused 1 (omega arith) (rw (phase-code, e))
 
-  pub phase-absent : {r : Outcome} → phaseKnown phase ≡ true → isAbsent contract (s .contractcount) ≡ true → r ≡ refusedWith s 3 → ChangeIs r
+  pub phase-absent : {d : Decision} → phaseKnown phase ≡ true → isAbsent contract (s .contractcount) ≡ true → d ≡ refusedBy 3 → ChangeIs d
   phase-absent known e = phase-refused 3 (omega arith) (rw (phase-code, known, e))
 
   module _ (known : phaseKnown phase ≡ true) (present : isAbsent contract (s .contractcount) ≡ false) {place : ℕ} (is : place ≡ contract - 1) where
@@ -138,10 +143,14 @@ module _ {s : State} {buys sells trades : List ℕ} (w : WellFormedState s buys 
 
     terms-are : listingAt (exchangeOf m) (contract - 1) .contract ≡ getD (s .contracts) place noContract
     unfolding listingIn
-    terms-are = rw is (ap (λ (l : Listing). l .contract) (listing-at m f (contract - 1) here))
+    terms-are = rw is (ap (λ (l : exchange.Listing). l .contract) (listing-at m f (contract - 1) here))
 
-    pub phase-unlisted : {r : Outcome} → changeListed (getD (s .contracts) place noContract .phase) phase ≡ false → r ≡ refusedWith s 17 → ChangeIs r
-    phase-unlisted h = phase-refused 17 (omega arith) (rw (phase-code, known, present, terms-are, h))
+    module _ {l : Listed} (stands : l ≡ listedIn s place) {t : Bool} (tested : t ≡ changeListed (l .terms .phase) phase) where
+      listed-is : changeListed (getD (s .contracts) place noContract .phase) phase ≡ t
+      listed-is = sym (rw stands at tested)
+
+      pub phase-unlisted : {d : Decision} → t ≡ false → d ≡ refusedBy 17 → ChangeIs d
+      phase-unlisted h = phase-refused 17 (omega arith) (rw (phase-code, known, present, terms-are, listed-is, h))
 
     module _ (listed : changeListed (getD (s .contracts) place noContract .phase) phase ≡ true) (no : isMatch s contract phase ≡ false) where
       other : inAuction (listingAt (exchangeOf m) (contract - 1) .contract) ≡ false
@@ -166,5 +175,10 @@ module _ {s : State} {buys sells trades : List ℕ} (w : WellFormedState s buys 
       unfolding kindOf phaseChanged
       no-lots = rw (no-match (exchangeOf m) (contract - 1) other, traded-nil)
 
-      pub phase-accepted : {r : Outcome} {next : State} → next ≡ withPhaseAt s place phase → r ≡ acceptedWith next 0 0 0 → ChangeIs r
-      phase-accepted n e = acceptance s buys sells trades (Phase contract phase) accepted-code no-lots (phase-lies ∙ rw n) e
+    pub phase-accepted : {l : Listed} (stands : l ≡ listedIn s place) {t : Bool} (tested : t ≡ changeListed (l .terms .phase) phase) {d : Decision} → t ≡ true
+        → isMatch s contract phase ≡ false → d ≡ acceptedBy (Listing (phasedAs l phase)) 0 0 → ChangeIs d
+    phase-accepted stands tested h none e =
+        let listed : changeListed (getD (s .contracts) place noContract .phase) phase ≡ true = listed-is stands tested ∙ h in
+        phased-decided (omega (arith, is, here, f .contracts-high))
+        (acceptance s buys sells trades (Phase contract phase) (accepted-code listed none) (no-lots listed none) (phase-lies listed none) refl)
+        (e ∙ ap (λ (v : Listed). acceptedBy (Listing (phasedAs v phase)) 0 0) stands)

@@ -1,7 +1,7 @@
 -- Deposit and withdraw: the code's tests are the rules' refusals, and the balance changed is the rules' state. Assumes nothing.
-use mathlib.Core.Bool.{true, false, _||_}
+use mathlib.Core.Bool.{Bool, true, false, _||_}
 use mathlib.Core.List.{List}
-use mathlib.Core.Path.{_≡_, refl, ap, _∙_}
+use mathlib.Core.Path.{_≡_, refl, sym, ap, _∙_, subst, subst⁻¹}
 use Prim.Native.Nat.{ℕ, _-_, _<_, _≤_, _^_}
 use native.Mathlib.Omega.{arith}
 use borrow.Author.Tests.{leb-true, not-false}
@@ -13,18 +13,21 @@ use Rattle.laws.specs.Bound.{Within}
 use Rattle.laws.specs.Choice.{both-true, pick}
 use Rattle.rules.specs.Kinds.{codeOf, kindOf}
 use Rattle.rules.specs.Answers.{amountRefused, depositRefusals, firstOf, leavesTooLittle, liftsTooHigh, withdrawRefusals}
-use Rattle.rules.specs.Bounds.{within, maxAmount, balanceMost}
+use Rattle.rules.specs.Bounds.{within, maxAccounts, maxAmount, balanceMost}
 use Rattle.rules.specs.Exchange.{accountAt, noAccount, isAbsent}
 use Rattle.rules.specs.Margin.{charged}
-use Rattle.rules.specs.Memory.{Memory, exchangeOf, inUse, put, stepIn, memory, WellFormedState, written}
+use Rattle.rules.specs.Memory.{Memory, exchangeOf, inUse, put, memory, WellFormedState, written}
 use Rattle.rules.specs.Step.{deposited, paid, withBalance, withdrawn}
 use Rattle.rules.specs.declared.Account.{Account}
 use Rattle.rules.specs.declared.Command.the-variants.{Deposit, Withdraw}
 use Rattle.rules.specs.declared.State.{State}
-use Rattle.margin.specs.Charge.{ChargeableAt, ChargedAt}
+use Rattle.margin.specs.Charge.{Chargeable, ChargedIs}
 use Rattle.margin.proofs.Charging.{charged-at}
-use Rattle.engine.specs.Outcome.{OutcomeIs, refusedWith, acceptedWith, withBalanceAt}
-use Rattle.engine.specs.declared.answers.Outcome.{Outcome}
+use Rattle.engine.specs.Decision.{DecisionIs, HeldBy, acceptedBy, refusedBy}
+use Rattle.engine.specs.Outcome.{withBalanceAt}
+use Rattle.engine.specs.declared.updates.Decision.{Decision}
+use Rattle.engine.specs.declared.updates.Update.the-variants.{Balance}
+use Rattle.engine.proofs.Decisions.{balance-decided, held-here, refusal-decided}
 use Rattle.engine.proofs.Formed.{Formed, formed, no-account, account-at, account-put, balance-within}
 use Rattle.engine.proofs.Margins.{chargeable}
 use Rattle.engine.proofs.Outcomes.{refusal, acceptance}
@@ -45,13 +48,20 @@ module _ {s : State} {buys sells trades : List ℕ} (w : WellFormedState s buys 
 
   -- ---- the account's place
 
-  module _ (present : isAbsent account (s .accountcount) ≡ false) where
+  module _ (present : isAbsent account (s .accountcount) ≡ false) {who : Account} (held : HeldBy s account who) where
     here : account - 1 < s .accountcount
     here = place-below account (s .accountcount) present .1
 
-    balance-is : accountAt (exchangeOf m .accounts) (account - 1) .balance ≡ getD (s .accounts) (account - 1) noAccount .balance
+    its-balance : getD (s .accounts) (account - 1) noAccount .balance ≡ who .balance
+    its-balance = ap (λ (v : Account). v .balance) (held-here s account present held)
+
+    balance-is : accountAt (exchangeOf m .accounts) (account - 1) .balance ≡ who .balance
     unfolding accountAt
-    balance-is = ap (λ (v : Account). v .balance) (account-at m f (account - 1) here)
+    balance-is = ap (λ (v : Account). v .balance) (account-at m f (account - 1) here) ∙ its-balance
+
+    pub balance-fits : Within balanceMost (who .balance)
+    unfolding accountAt
+    balance-fits = rw its-balance at (balance-within m f (account - 1) here)
 
     -- the rules' state with another balance, as it lies
     paid-lies : (balance : ℤ) → put m (paid (exchangeOf m) (account - 1) balance) ≡ memory (withBalanceAt s (account - 1) balance) buys sells trades
@@ -64,92 +74,113 @@ module _ {s : State} {buys sells trades : List ℕ} (w : WellFormedState s buys 
         (rw read (account-put m f (account - 1) v here refl))
 
     module _ {place : ℕ} (is : place ≡ account - 1) where
-      pub balance-fits : Within balanceMost (getD (s .accounts) place noAccount .balance)
-      unfolding accountAt
-      balance-fits = rw is (balance-within m f (account - 1) here)
+      pub account-fits : place < maxAccounts
+      account-fits = omega (arith, is, here, f .accounts-high)
 
       -- the account can be charged
-      pub account-chargeable : ChargeableAt s buys sells place
-      account-chargeable = rw is (chargeable m f (account - 1) here)
+      abbrev ChargeableBy : Account → Type 0
+      ChargeableBy v = Chargeable (v .holdings) (s .contracts) (s .contractcount) buys (s .buycounts) sells (s .sellcounts) place
 
-      charged-is : {total : ℕ} → ChargedAt s buys sells place total → total ≡ charged (exchangeOf m) (account - 1)
-      charged-is c = charged-at s buys sells place _ (rw is here) c trades ∙ rw is
+      pub account-chargeable : ChargeableBy who
+      account-chargeable = subst ChargeableBy (held-here s account present held) (rw is (chargeable m f (account - 1) here))
+
+      abbrev ChargedBy : ℕ → Account → Type 0
+      ChargedBy total v = ChargedIs (v .holdings) (s .contracts) (s .contractcount) buys (s .buycounts) sells (s .sellcounts) place total
+
+      charged-is : {total : ℕ} → ChargedBy total who → total ≡ charged (exchangeOf m) (account - 1)
+      charged-is {total} c = charged-at s buys sells place _ (rw is here) (rw is (rw is at (subst⁻¹ (ChargedBy total) (held-here s account present held) c))) trades ∙ rw is
 
   -- ---- deposit
 
   module _ (amount : ℕ) where
-    abbrev DepositIs : Outcome → Type 0
-    DepositIs r = OutcomeIs (stepIn m (Deposit account amount)) r buys sells trades
+    abbrev DepositIs : Decision → Type 0
+    DepositIs d = DecisionIs m (Deposit account amount) d buys sells trades
 
     deposit-code : codeOf (exchangeOf m) (Deposit account amount) ≡ pick (isAbsent account (s .accountcount)) 2 (pick (amountRefused amount || liftsTooHigh (exchangeOf m) account amount) 16 0)
     unfolding codeOf kindOf depositRefusals firstOf
     deposit-code = rw (no-account m f account)
 
-    deposit-refused : (code : ℕ) {r : Outcome} → 0 < code → codeOf (exchangeOf m) (Deposit account amount) ≡ code → r ≡ refusedWith s code → DepositIs r
-    deposit-refused code h = refusal s buys sells trades (Deposit account amount) code h
+    deposit-refused : (code : ℕ) {d : Decision} → 0 < code → codeOf (exchangeOf m) (Deposit account amount) ≡ code → d ≡ refusedBy code → DepositIs d
+    deposit-refused code h e = refusal-decided (refusal s buys sells trades (Deposit account amount) code h e refl)
 
-    pub deposit-absent : {r : Outcome} → isAbsent account (s .accountcount) ≡ true → r ≡ refusedWith s 2 → DepositIs r
+    pub deposit-absent : {d : Decision} → isAbsent account (s .accountcount) ≡ true → d ≡ refusedBy 2 → DepositIs d
     deposit-absent e = deposit-refused 2 (omega arith) (rw (deposit-code, e))
 
-    module _ (present : isAbsent account (s .accountcount) ≡ false) where
-      pub deposit-amount : {r : Outcome} → amountRefused amount ≡ true → r ≡ refusedWith s 16 → DepositIs r
-      deposit-amount a = deposit-refused 16 (omega arith) (rw (deposit-code, present, a))
+    pub deposit-amount : {d : Decision} → isAbsent account (s .accountcount) ≡ false → amountRefused amount ≡ true → d ≡ refusedBy 16 → DepositIs d
+    deposit-amount present a = deposit-refused 16 (omega arith) (rw (deposit-code, present, a))
 
-      module _ (right : amountRefused amount ≡ false) {place : ℕ} (is : place ≡ account - 1) where
-        abbrev lifted : ℤ
-        lifted = getD (s .accounts) place noAccount .balance +ℤ pos amount
+    module _ (present : isAbsent account (s .accountcount) ≡ false) {who : Account} (held : HeldBy s account who) (right : amountRefused amount ≡ false) where
+      abbrev lifted : ℤ
+      lifted = who .balance +ℤ pos amount
 
-        lifts-is : liftsTooHigh (exchangeOf m) account amount ≡ ltZ (pos (10 ^ 18)) lifted
-        unfolding liftsTooHigh
-        lifts-is = rw (is, balance-is present)
+      lifts-is : liftsTooHigh (exchangeOf m) account amount ≡ ltZ (pos (10 ^ 18)) lifted
+      unfolding liftsTooHigh
+      lifts-is = rw (balance-is present held)
 
-        pub deposit-high : {r : Outcome} → ltZ (pos (10 ^ 18)) lifted ≡ true → r ≡ refusedWith s 16 → DepositIs r
-        deposit-high h = deposit-refused 16 (omega arith) (rw (deposit-code, present, right, lifts-is, h))
+      -- the test as the code makes it, of the balance as it is stored
+      module _ {stored : ℤ} (same : stored ≡ who .balance) {t : Bool} (tested : t ≡ ltZ (pos (10 ^ 18)) (stored +ℤ pos amount)) where
+        high-is : ltZ (pos (10 ^ 18)) lifted ≡ t
+        high-is = sym (tested ∙ rw same)
 
+        pub deposit-high : {d : Decision} → t ≡ true → d ≡ refusedBy 16 → DepositIs d
+        deposit-high h = deposit-refused 16 (omega arith) (rw (deposit-code, present, right, lifts-is, high-is, h))
+
+      module _ {place : ℕ} (is : place ≡ account - 1) where
         deposit-lies : written m (kindOf (exchangeOf m) (Deposit account amount) .effect .stages) ≡ memory (withBalanceAt s place lifted) buys sells trades
         unfolding kindOf deposited
-        deposit-lies = rw (is, balance-is present) (paid-lies present (getD (s .accounts) (account - 1) noAccount .balance +ℤ pos amount))
+        deposit-lies = rw (is, balance-is present held) (paid-lies present held lifted)
 
-        pub deposit-accepted : {r : Outcome} {next : State} → ltZ (pos (10 ^ 18)) lifted ≡ false → next ≡ withBalanceAt s place lifted → r ≡ acceptedWith next 0 0 0 → DepositIs r
+        pub deposit-accepted : {stored : ℤ} (same : stored ≡ who .balance) {t : Bool} (tested : t ≡ ltZ (pos (10 ^ 18)) (stored +ℤ pos amount)) {sum : ℤ} {d : Decision}
+            → t ≡ false → sum ≡ lifted → d ≡ acceptedBy (Balance place sum) 0 0 → DepositIs d
         unfolding kindOf deposited
-        deposit-accepted h n e = acceptance s buys sells trades (Deposit account amount) (rw (deposit-code, present, right, lifts-is, h)) refl (deposit-lies ∙ rw n) e
+        deposit-accepted same tested h n e =
+            balance-decided (account-fits present held is)
+            (acceptance s buys sells trades (Deposit account amount) (rw (deposit-code, present, right, lifts-is, high-is same tested, h)) refl deposit-lies refl)
+            (e ∙ ap (λ (z : ℤ). acceptedBy (Balance place z) 0 0) n)
 
     -- ---- withdraw
 
-    abbrev WithdrawIs : Outcome → Type 0
-    WithdrawIs r = OutcomeIs (stepIn m (Withdraw account amount)) r buys sells trades
+    abbrev WithdrawIs : Decision → Type 0
+    WithdrawIs d = DecisionIs m (Withdraw account amount) d buys sells trades
 
     withdraw-code : codeOf (exchangeOf m) (Withdraw account amount)
         ≡ pick (isAbsent account (s .accountcount)) 2 (pick (amountRefused amount) 16 (pick (leavesTooLittle (exchangeOf m) account amount) 9 0))
     unfolding codeOf kindOf withdrawRefusals firstOf
     withdraw-code = rw (no-account m f account)
 
-    withdraw-refused : (code : ℕ) {r : Outcome} → 0 < code → codeOf (exchangeOf m) (Withdraw account amount) ≡ code → r ≡ refusedWith s code → WithdrawIs r
-    withdraw-refused code h = refusal s buys sells trades (Withdraw account amount) code h
+    withdraw-refused : (code : ℕ) {d : Decision} → 0 < code → codeOf (exchangeOf m) (Withdraw account amount) ≡ code → d ≡ refusedBy code → WithdrawIs d
+    withdraw-refused code h e = refusal-decided (refusal s buys sells trades (Withdraw account amount) code h e refl)
 
-    pub withdraw-absent : {r : Outcome} → isAbsent account (s .accountcount) ≡ true → r ≡ refusedWith s 2 → WithdrawIs r
+    pub withdraw-absent : {d : Decision} → isAbsent account (s .accountcount) ≡ true → d ≡ refusedBy 2 → WithdrawIs d
     withdraw-absent e = withdraw-refused 2 (omega arith) (rw (withdraw-code, e))
 
-    module _ (present : isAbsent account (s .accountcount) ≡ false) where
-      pub withdraw-amount : {r : Outcome} → amountRefused amount ≡ true → r ≡ refusedWith s 16 → WithdrawIs r
-      withdraw-amount a = withdraw-refused 16 (omega arith) (rw (withdraw-code, present, a))
+    pub withdraw-amount : {d : Decision} → isAbsent account (s .accountcount) ≡ false → amountRefused amount ≡ true → d ≡ refusedBy 16 → WithdrawIs d
+    withdraw-amount present a = withdraw-refused 16 (omega arith) (rw (withdraw-code, present, a))
 
-      module _ (right : amountRefused amount ≡ false) {place : ℕ} (is : place ≡ account - 1) where
-        abbrev left : ℤ
-        left = getD (s .accounts) place noAccount .balance -ℤ pos amount
+    module _ (present : isAbsent account (s .accountcount) ≡ false) {who : Account} (held : HeldBy s account who) (right : amountRefused amount ≡ false)
+        {place : ℕ} (is : place ≡ account - 1) {total : ℕ} (c : ChargedBy present held is total who) where
+      abbrev left : ℤ
+      left = who .balance -ℤ pos amount
 
-        module _ {total : ℕ} (c : ChargedAt s buys sells place total) where
-          leaves-is : leavesTooLittle (exchangeOf m) account amount ≡ ltZ left (pos total)
-          unfolding leavesTooLittle
-          leaves-is = rw (charged-is present is c, is, balance-is present)
+      leaves-is : leavesTooLittle (exchangeOf m) account amount ≡ ltZ left (pos total)
+      unfolding leavesTooLittle
+      leaves-is = rw (charged-is present held is c, balance-is present held)
 
-          pub withdraw-short : {r : Outcome} → ltZ left (pos total) ≡ true → r ≡ refusedWith s 9 → WithdrawIs r
-          withdraw-short h = withdraw-refused 9 (omega arith) (rw (withdraw-code, present, right, leaves-is, h))
+      -- the test as the code makes it, of the difference as it is stored
+      module _ {rest : ℤ} (same : rest ≡ left) {t : Bool} (tested : t ≡ ltZ rest (pos total)) where
+        short-is : ltZ left (pos total) ≡ t
+        short-is = sym (tested ∙ rw same)
 
-          withdraw-lies : written m (kindOf (exchangeOf m) (Withdraw account amount) .effect .stages) ≡ memory (withBalanceAt s place left) buys sells trades
-          unfolding kindOf withdrawn
-          withdraw-lies = rw (is, balance-is present) (paid-lies present (getD (s .accounts) (account - 1) noAccount .balance -ℤ pos amount))
+        pub withdraw-short : {d : Decision} → t ≡ true → d ≡ refusedBy 9 → WithdrawIs d
+        withdraw-short h = withdraw-refused 9 (omega arith) (rw (withdraw-code, present, right, leaves-is, short-is, h))
 
-          pub withdraw-accepted : {r : Outcome} {next : State} → ltZ left (pos total) ≡ false → next ≡ withBalanceAt s place left → r ≡ acceptedWith next 0 0 0 → WithdrawIs r
-          unfolding kindOf withdrawn
-          withdraw-accepted h n e = acceptance s buys sells trades (Withdraw account amount) (rw (withdraw-code, present, right, leaves-is, h)) refl (withdraw-lies ∙ rw n) e
+      withdraw-lies : written m (kindOf (exchangeOf m) (Withdraw account amount) .effect .stages) ≡ memory (withBalanceAt s place left) buys sells trades
+      unfolding kindOf withdrawn
+      withdraw-lies = rw (is, balance-is present held) (paid-lies present held left)
+
+      pub withdraw-accepted : {rest : ℤ} (same : rest ≡ left) {t : Bool} (tested : t ≡ ltZ rest (pos total)) {d : Decision} → t ≡ false → d ≡ acceptedBy (Balance place rest) 0 0 → WithdrawIs d
+      unfolding kindOf withdrawn
+      withdraw-accepted same tested h e =
+          balance-decided (account-fits present held is)
+          (acceptance s buys sells trades (Withdraw account amount) (rw (withdraw-code, present, right, leaves-is, short-is same tested, h)) refl withdraw-lies refl)
+          (e ∙ ap (λ (z : ℤ). acceptedBy (Balance place z) 0 0) same)

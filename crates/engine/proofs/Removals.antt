@@ -17,7 +17,8 @@ use Rattle.areas.proofs.Lists.{length-removeAt}
 use Rattle.rules.specs.Kinds.{codeOf, done, kindOf}
 use Rattle.rules.specs.Answers.{Refusal, cancelRefusals, firstOf, noSuchOrder, numbered, ofAnother, ownerRefusals, pullRefusals, removalRefused, restingOrder}
 use Rattle.rules.specs.Bounds.{maxLots, inAuction, maxResting, maxContracts, continuous, noTrading}
-use Rattle.rules.specs.Exchange.{Listing, listingAt, lotsWhere, noListing, noOrder, isAbsent, placeOf}
+use Rattle.rules.specs.Exchange as exchange
+use Rattle.rules.specs.Exchange.{listingAt, lotsWhere, noListing, noOrder, isAbsent, placeOf}
 use Rattle.rules.specs.Memory.{Memory, exchangeOf, listingIn, orderFrom, put, putQueue, queueIn, stepIn, memory, WellFormedState, firstWord}
 use Rattle.book.specs.Places.{firstWhere, indexOf}
 use Rattle.rules.specs.Step.{Effect, answerOf, cancelled, hasNumber, isOf, listingWithout, pulled, removed, withListing, without}
@@ -33,10 +34,16 @@ use Rattle.rules.proofs.Refusals.{failed, first-append}
 use Rattle.book.proofs.Places.{index-apart, index-notIn, first-within, lots-none, lots-number, numbered-found, numbered-none, numbered-append-found, numbered-append-none, without-none, without-number}
 use Rattle.book.specs.Removal.{RemovedIs}
 use Rattle.invariants.proofs.Clauses.{ListingOk, OrderOk, order-ok}
-use Rattle.engine.specs.Outcome.{OutcomeIs, refusedWith, acceptedWith, withCountsIn}
+use Rattle.engine.specs.Decision.{DecisionIs, acceptedBy, countedAs, listedIn, refusedBy}
+use Rattle.engine.specs.Outcome.{OutcomeIs, acceptedWith, withCountsIn}
 use Rattle.engine.specs.Removal.{CancelledIs}
 use Rattle.engine.specs.declared.answers.Outcome.{Outcome}
 use Rattle.engine.specs.declared.removal.Cancelled.{Cancelled}
+use Rattle.engine.specs.declared.updates.Decision.{Decision}
+use Rattle.engine.specs.declared.updates.Listed.{Listed}
+use Rattle.engine.specs.declared.updates.Update.{Update}
+use Rattle.engine.specs.declared.updates.Update.the-variants.{Listing}
+use Rattle.engine.proofs.Decisions.{counted-decided, refusal-decided}
 use Rattle.engine.proofs.Formed.{Formed, formed, contracts-count, listing-at, no-account, no-contract}
 use Rattle.engine.proofs.Outcomes.{refusal, acceptance}
 use Rattle.engine.proofs.Puts.{put-queues}
@@ -154,7 +161,7 @@ numbered-first n os ps h = numbered-append-found n os ps h ∙ sym (numbered-fou
 
 -- ---- numbers used once over all queues are so in one contract's two
 
-listing-once : (ls : List Listing) (c : ℕ) → c < length ls → usedOnce (allNumbers ls) ≡ true
+listing-once : (ls : List exchange.Listing) (c : ℕ) → c < length ls → usedOnce (allNumbers ls) ≡ true
     → usedOnce (numbers (getD ls c noListing .buys) ++ numbers (getD ls c noListing .sells)) ≡ true
 unfolding allListed
 listing-once [] c h u = absurd (not-suc-le-zero h)
@@ -252,6 +259,26 @@ module _ {s : State} {buys sells trades : List ℕ} (w : WellFormedState s buys 
       side-once false = once-append (numbers (orders false)) (numbers (orders true)) both-once .0
       side-once true = once-append (numbers (orders false)) (numbers (orders true)) both-once .1
 
+      -- the same of the contract as it is read
+      module _ {l : Listed} (stands : l ≡ listedIn s place) where
+        pub bids-few : l .bought ≤ maxResting
+        bids-few = rw stands (side-few false)
+
+        pub offers-few : l .sold ≤ maxResting
+        offers-few = rw stands (side-few true)
+
+        pub bids-room : firstWord place (l .bought) ≤ length buys
+        bids-room = rw stands (side-room false)
+
+        pub offers-room : firstWord place (l .sold) ≤ length sells
+        offers-room = rw stands (side-room true)
+
+        pub bids-once : usedOnce (numbers (queueIn buys place (l .bought))) ≡ true
+        bids-once = rw stands (side-once false)
+
+        pub offers-once : usedOnce (numbers (queueIn sells place (l .sold))) ≡ true
+        offers-once = rw stands (side-once true)
+
       -- a number found among the buys is not among the sells
       pub apart : (number : ℕ) → indexOf number (orders false) < length (orders false) → indexOf number (orders true) ≡ length (orders true)
       apart number h = index-notIn number (orders true) (index-apart number (orders false) (numbers (orders true)) both-once h)
@@ -284,18 +311,18 @@ module _ {s : State} {buys sells trades : List ℕ} (w : WellFormedState s buys 
 
       -- ---- cancel
 
-      module _ (number : ℕ) where
-        abbrev CancelIs : Outcome → List ℕ → List ℕ → Type 0
-        CancelIs r buys′ sells′ = OutcomeIs (stepIn m (Cancel account contract operator number)) r buys′ sells′ trades
+      module _ (number : ℕ) {l : Listed} (stands : l ≡ listedIn s place) where
+        abbrev CancelIs : Decision → List ℕ → List ℕ → Type 0
+        CancelIs d buys′ sells′ = DecisionIs m (Cancel account contract operator number) d buys′ sells′ trades
 
         -- the first of the two queues that has the order decides
         cancel-is : codeOf (exchangeOf m) (Cancel account contract operator number) ≡ firstOf (ownerRefusals (placeOf account) (numbered number (orders false ++ orders true)))
         unfolding restingOrder listingIn
         cancel-is = cancel-code number ∙ rw (none, listing-is)
 
-        module _ {owner : ℕ} (mine : owner ≡ placeOf account) {bid : Cancelled} {buys′ : List ℕ} (among-buys : CancelledIs owner number buys place (count false) bid buys′) where
+        module _ {owner : ℕ} (mine : owner ≡ placeOf account) {bid : Cancelled} {buys′ : List ℕ} (among-buys : CancelledIs owner number buys place (l .bought) bid buys′) where
           b : CancelledIs (placeOf account) number buys place (count false) bid buys′
-          b = rw mine at among-buys
+          b = rw (mine, stands) at among-buys
 
           -- bid .code ≢ 14
           bid-code : bid .code ≢ 14 → codeOf (exchangeOf m) (Cancel account contract operator number) ≡ bid .code
@@ -304,21 +331,23 @@ module _ {s : State} {buys sells trades : List ℕ} (w : WellFormedState s buys 
               ∙ ap (λ (found : List Order). firstOf (ownerRefusals (placeOf account) found)) (numbered-first number (orders false) (orders true) (found-code (placeOf account) number (orders false) (λ e. h (b .code ∙ e))))
               ∙ sym (b .code)
 
-          pub bid-done : {r : Outcome} {next : State} → bid .code ≡ 0
-              → next ≡ withCountsIn s (set (s .buycounts) place (bid .count)) (set (s .sellcounts) place (count true)) → r ≡ acceptedWith next number 0 (bid .lots) → CancelIs r buys′ sells
+          pub bid-done : {u : Update} {d : Decision} → bid .code ≡ 0 → u ≡ Listing (countedAs l (bid .count) (l .sold)) → d ≡ acceptedBy u number (bid .lots) → CancelIs d buys′ sells
           unfolding kindOf cancelled
           bid-done e n a =
-              removal-accepted (hasNumber number) (b .done e)
+              counted-decided contract-fits
+              (removal-accepted (hasNumber number) (b .done e)
               (removed-none (hasNumber number) sells place (count true) (side-room true) (apart number (found-code (placeOf account) number (orders false) (λ z. omega (arith, b .code, e, z)))))
-              (Cancel account contract operator number) (bid-code (λ z. omega arith) ∙ e) refl n (omega arith) a
+              (Cancel account contract operator number) (bid-code (λ z. omega arith) ∙ e) refl refl (omega arith) refl)
+              (a ∙ ap (λ (v : Update). acceptedBy v number (bid .lots)) n ∙ ap (λ (v : Listed). acceptedBy (Listing (countedAs v (bid .count) (v .sold))) number (bid .lots)) stands)
 
-          pub bid-another : {r : Outcome} → bid .code ≡ 15 → r ≡ refusedWith s 15 → CancelIs r buys′ sells
+          pub bid-another : {d : Decision} → bid .code ≡ 15 → d ≡ refusedBy 15 → CancelIs d buys′ sells
           bid-another e a =
-              rw (b .kept (λ z. omega arith)) (refusal s buys sells trades (Cancel account contract operator number) 15 (omega arith) (bid-code (λ z. omega arith) ∙ e) a)
+              refusal-decided
+              (rw (b .kept (λ z. omega arith)) (refusal s buys sells trades (Cancel account contract operator number) 15 (omega arith) (bid-code (λ z. omega arith) ∙ e) refl)) a
 
-          module _ (p : bid .code ≢ 0) (q : bid .code ≢ 15) {offer : Cancelled} {sells′ : List ℕ} (among-sells : CancelledIs owner number sells place (count true) offer sells′) where
+          module _ (p : bid .code ≢ 0) (q : bid .code ≢ 15) {offer : Cancelled} {sells′ : List ℕ} (among-sells : CancelledIs owner number sells place (l .sold) offer sells′) where
             o : CancelledIs (placeOf account) number sells place (count true) offer sells′
-            o = rw mine at among-sells
+            o = rw (mine, stands) at among-sells
 
             missing : indexOf number (orders false) ≡ length (orders false)
             missing = missing-code (placeOf account) number (orders false) (λ e. p (b .code ∙ e)) (λ e. q (b .code ∙ e))
@@ -326,16 +355,19 @@ module _ {s : State} {buys sells trades : List ℕ} (w : WellFormedState s buys 
             offer-code : codeOf (exchangeOf m) (Cancel account contract operator number) ≡ offer .code
             offer-code = cancel-is ∙ ap (λ (found : List Order). firstOf (ownerRefusals (placeOf account) found)) (numbered-append-none number (orders false) (orders true) missing) ∙ sym (o .code)
 
-            pub offer-refused : {r : Outcome} → offer .code ≢ 0 → r ≡ refusedWith s (offer .code) → CancelIs r buys′ sells′
-            offer-refused e a = rw (b .kept p, o .kept e) (refusal s buys sells trades (Cancel account contract operator number) (offer .code) (omega arith) offer-code a)
+            pub offer-refused : {d : Decision} → offer .code ≢ 0 → d ≡ refusedBy (offer .code) → CancelIs d buys′ sells′
+            offer-refused e a =
+                refusal-decided
+                (rw (b .kept p, o .kept e) (refusal s buys sells trades (Cancel account contract operator number) (offer .code) (omega arith) offer-code refl)) a
 
-            pub offer-done : {r : Outcome} {next : State} → offer .code ≡ 0
-                → next ≡ withCountsIn s (set (s .buycounts) place (count false)) (set (s .sellcounts) place (offer .count)) → r ≡ acceptedWith next number 0 (offer .lots) → CancelIs r buys′ sells′
+            pub offer-done : {u : Update} {d : Decision} → offer .code ≡ 0 → u ≡ Listing (countedAs l (l .bought) (offer .count)) → d ≡ acceptedBy u number (offer .lots) → CancelIs d buys′ sells′
             unfolding kindOf cancelled
             offer-done e n a =
-                rw (b .kept p)
+                counted-decided contract-fits
+                (rw (b .kept p)
                 (removal-accepted (hasNumber number) (removed-none (hasNumber number) buys place (count false) (side-room false) missing) (o .done e)
-                (Cancel account contract operator number) (offer-code ∙ e) refl n (omega arith) a)
+                (Cancel account contract operator number) (offer-code ∙ e) refl refl (omega arith) refl))
+                (a ∙ ap (λ (v : Update). acceptedBy v number (offer .lots)) n ∙ ap (λ (v : Listed). acceptedBy (Listing (countedAs v (v .bought) (offer .count))) number (offer .lots)) stands)
 
       -- ---- pull
 
@@ -349,29 +381,34 @@ module _ {s : State} {buys sells trades : List ℕ} (w : WellFormedState s buys 
       side-lots false test = omega (arith, lots-high _ _ _ _ test (orders false) (in-range .orders false), length-queue buys place (count false), side-few false)
       side-lots true test = omega (arith, lots-high _ _ _ _ test (orders true) (in-range .orders true), length-queue sells place (count true), side-few true)
 
-      pub pulled-high : (sell : Bool) {owner : ℕ} → owner ≡ placeOf account → {stay gone : ℕ} {area′ : List ℕ} → RemovedIs (isOf owner) (area sell) place (count sell) stay gone area′ → gone ≤ maxResting * maxLots
+      pulled-high : (sell : Bool) {owner : ℕ} → owner ≡ placeOf account → {stay gone : ℕ} {area′ : List ℕ} → RemovedIs (isOf owner) (area sell) place (count sell) stay gone area′ → gone ≤ maxResting * maxLots
       pulled-high sell {owner} mine b = rw (b .lots) (side-lots sell (isOf owner))
 
-      module _ {owner : ℕ} (mine : owner ≡ placeOf account) {bought sold bid offer : ℕ} {buys′ sells′ : List ℕ}
-          (from-buys : RemovedIs (isOf owner) buys place (count false) bought bid buys′) (from-sells : RemovedIs (isOf owner) sells place (count true) sold offer sells′) where
+      module _ {owner : ℕ} (mine : owner ≡ placeOf account) {l : Listed} (stands : l ≡ listedIn s place) {bought sold bid offer : ℕ} {buys′ sells′ : List ℕ}
+          (from-buys : RemovedIs (isOf owner) buys place (l .bought) bought bid buys′) (from-sells : RemovedIs (isOf owner) sells place (l .sold) sold offer sells′) where
         own-buys : RemovedIs (isOf (placeOf account)) buys place (count false) bought bid buys′
-        own-buys = rw mine at from-buys
+        own-buys = rw (mine, stands) at from-buys
 
         own-sells : RemovedIs (isOf (placeOf account)) sells place (count true) sold offer sells′
-        own-sells = rw mine at from-sells
+        own-sells = rw (mine, stands) at from-sells
 
-        pub pull-accepted : {r : Outcome} {next : State} {lots : ℕ} → next ≡ withCountsIn s (set (s .buycounts) place bought) (set (s .sellcounts) place sold) → lots ≡ bid + offer
-            → r ≡ acceptedWith next 0 0 lots → OutcomeIs (stepIn m (Pull account contract operator)) r buys′ sells′ trades
+        pub pulled-few : bid + offer ≤ 2 * (maxResting * maxLots)
+        pulled-few = omega (arith, pulled-high false refl own-buys, pulled-high true refl own-sells)
+
+        pub pull-accepted : {u : Update} {d : Decision} {lots : ℕ} → u ≡ Listing (countedAs l bought sold) → lots ≡ bid + offer → d ≡ acceptedBy u 0 lots
+            → DecisionIs m (Pull account contract operator) d buys′ sells′ trades
         unfolding kindOf pulled
-        pull-accepted n l a = removal-accepted (isOf (placeOf account)) own-buys own-sells (Pull account contract operator) (pull-code ∙ none) refl n l a
+        pull-accepted {lots = lots} n e a =
+            counted-decided contract-fits
+            (removal-accepted (isOf (placeOf account)) own-buys own-sells (Pull account contract operator) (pull-code ∙ none) refl refl e refl)
+            (a ∙ ap (λ (v : Update). acceptedBy v 0 lots) n ∙ ap (λ (v : Listed). acceptedBy (Listing (countedAs v bought sold)) 0 lots) stands)
 
   -- ---- refused by one of the tests that both kinds make first
 
-  pub pull-refused : {code : ℕ} {r : Outcome} → code ≡ firstOf shared → code ≢ 0 → r ≡ refusedWith s code
-      → OutcomeIs (stepIn m (Pull account contract operator)) r buys sells trades
-  pull-refused {code} e h a = refusal s buys sells trades (Pull account contract operator) code (omega arith) (pull-code ∙ sym e) a
+  pub pull-refused : {code : ℕ} {d : Decision} → code ≡ firstOf shared → code ≢ 0 → d ≡ refusedBy code → DecisionIs m (Pull account contract operator) d buys sells trades
+  pull-refused {code} e h = refusal-decided (refusal s buys sells trades (Pull account contract operator) code (omega arith) (pull-code ∙ sym e) refl)
 
-  pub cancel-refused : (number : ℕ) {code : ℕ} {r : Outcome} → code ≡ firstOf shared → code ≢ 0 → r ≡ refusedWith s code
-      → OutcomeIs (stepIn m (Cancel account contract operator number)) r buys sells trades
-  cancel-refused number {code} e h a =
-      refusal s buys sells trades (Cancel account contract operator number) code (omega arith) (rw (cancel-code number, ← e, ne-eqb code 0 h)) a
+  pub cancel-refused : (number : ℕ) {code : ℕ} {d : Decision} → code ≡ firstOf shared → code ≢ 0 → d ≡ refusedBy code
+      → DecisionIs m (Cancel account contract operator number) d buys sells trades
+  cancel-refused number {code} e h =
+      refusal-decided (refusal s buys sells trades (Cancel account contract operator number) code (omega arith) (rw (cancel-code number, ← e, ne-eqb code 0 h)) refl)

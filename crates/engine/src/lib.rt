@@ -4,3 +4,4 @@ pub mod answers;
 pub mod payments;
 pub mod phases;
 pub mod removal;
+pub mod updates;

@@ -2,15 +2,19 @@
 ghost use mathlib.Core.Path.{_≡_};
 ghost use lib.IntN.{pos, _+ℤ_};
 ghost use lib.Signed.{ltZ};
-ghost use Prim.Native.Nat.{_<_, _≤_};
-ghost use Rattle.rules.specs.Bounds.{balanceMost, maxAmount, maxAccounts, maxBalance};
+ghost use Prim.Native.Nat.{_≤_};
+ghost use Rattle.rules.specs.Bounds.{balanceMost, maxAmount, maxBalance};
 ghost use Rattle.rules.specs.Answers.{amountRefused};
-ghost use Rattle.rules.specs.Memory.{stepIn, memory, WellFormedState};
+ghost use Rattle.rules.specs.Memory.{memory, WellFormedState};
 ghost use Rattle.rules.specs.declared.Command.the-variants.{Deposit, Withdraw};
 ghost use Rattle.laws.specs.Bound.{Within};
-ghost use Rattle.engine.specs.Outcome.{OutcomeIs, withBalanceAt};
+ghost use Rattle.engine.specs.Decision.{DecisionIs, HeldBy, acceptedBy};
+ghost use Rattle.engine.specs.declared.updates.Update.the-variants.{Balance};
 use crate::answers;
-use crate::answers::Outcome;
+use crate::updates;
+use crate::updates::Decision;
+use crate::updates::Update;
+use rules::Account;
 use rules::State;
 
 fn amount_refused(amount: u64) -> bool
@@ -30,63 +34,59 @@ fn lifts_too_high(balance: i64, amount: u64) -> bool
     (rules::MAX_BALANCE as i64) < balance + amount as i64
 }
 
-// The state with another balance at one account's place.
-fn with_balance(state: State, place: usize, balance: i64) -> State
-    requires { ⌜ place < maxAccounts ⌝ }
-    ensures { λ r. ⌜ r ≡ withBalanceAt state place balance ⌝ }
+// The account's balance changes and nothing else.
+fn paid(place: usize, balance: i64) -> Decision
+    ensures { λ r. ⌜ r ≡ acceptedBy (Balance place balance) 0 0 ⌝ }
 {
-    let mut next = state;
-    let mut account = next.accounts[place];
-    account.balance = balance;
-    next.accounts[place] = account;
-    next
+    updates::accepted(Update::Balance { place, balance }, 0, 0)
 }
 
+// `who` is the account.
 pub fn deposit(
     state: State,
+    who: Account,
     buys: &[u32],
     sells: &[u32],
     trades: &[u32],
     account: u32,
     amount: u64,
-) -> Outcome
-    requires { ⌜ WellFormedState state (now buys) (now sells) (now trades) ⌝ }
-    ensures { λ r. ⌜ OutcomeIs (stepIn (memory state (now (buys .entry)) (now (sells .entry)) (now (trades .entry))) (Deposit account amount)) r (now (buys .entry)) (now (sells .entry)) (now (trades .entry)) ⌝ }
+) -> Decision
+    requires { ⌜ WellFormedState state (now buys) (now sells) (now trades) × HeldBy state account who ⌝ }
+    ensures { λ r. ⌜ DecisionIs (memory state (now (buys .entry)) (now (sells .entry)) (now (trades .entry))) (Deposit account amount) r (now (buys .entry)) (now (sells .entry)) (now (trades .entry)) ⌝ }
 {
     if answers::is_absent(account, state.accountcount) {
-        return answers::refused(state, 2);
+        return updates::refused(2);
     }
     if amount_refused(amount) {
-        return answers::refused(state, 16);
+        return updates::refused(16);
     }
-    let place = laws::place_of(account);
-    let who = state.accounts[place];
     let balance = who.balance;
     if lifts_too_high(balance, amount) {
-        return answers::refused(state, 16);
+        return updates::refused(16);
     }
-    answers::accepted(with_balance(state, place, balance + amount as i64), 0, 0, 0)
+    paid(laws::place_of(account), balance + amount as i64)
 }
 
+// `who` is the account.
 pub fn withdraw<'a>(
     state: State,
+    who: Account,
     buys: &'a [u32],
     sells: &'a [u32],
     trades: &[u32],
     account: u32,
     amount: u64,
-) -> Outcome
-    requires { ⌜ WellFormedState state (now buys) (now sells) (now trades) ⌝ }
-    ensures { λ r. ⌜ OutcomeIs (stepIn (memory state (now (buys .entry)) (now (sells .entry)) (now (trades .entry))) (Withdraw account amount)) r (now (buys .entry)) (now (sells .entry)) (now (trades .entry)) ⌝ }
+) -> Decision
+    requires { ⌜ WellFormedState state (now buys) (now sells) (now trades) × HeldBy state account who ⌝ }
+    ensures { λ r. ⌜ DecisionIs (memory state (now (buys .entry)) (now (sells .entry)) (now (trades .entry))) (Withdraw account amount) r (now (buys .entry)) (now (sells .entry)) (now (trades .entry)) ⌝ }
 {
     if answers::is_absent(account, state.accountcount) {
-        return answers::refused(state, 2);
+        return updates::refused(2);
     }
     if amount_refused(amount) {
-        return answers::refused(state, 16);
+        return updates::refused(16);
     }
     let place = laws::place_of(account);
-    let who = state.accounts[place];
     let left = who.balance - amount as i64;
     let holdings = who.holdings;
     let terms = state.contracts;
@@ -103,7 +103,7 @@ pub fn withdraw<'a>(
         place,
     );
     if margin::too_little(left, charged) {
-        return answers::refused(state, 9);
+        return updates::refused(9);
     }
-    answers::accepted(with_balance(state, place, left), 0, 0, 0)
+    paid(place, left)
 }

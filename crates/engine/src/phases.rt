@@ -1,14 +1,17 @@
 // Changes of a contract's state. For our own crates: it asks for a well-formed state.
-ghost use mathlib.Core.Bool.{false};
 ghost use mathlib.Core.Path.{_≡_};
-ghost use Prim.Native.Nat.{_<_, _≤_};
+ghost use Prim.Native.Nat.{_≤_};
 ghost use Rattle.rules.specs.Bounds.{maxContracts, phaseKnown};
 ghost use Rattle.rules.specs.Answers.{changeListed};
-ghost use Rattle.rules.specs.Memory.{stepIn, memory, WellFormedState};
+ghost use Rattle.rules.specs.Memory.{memory, WellFormedState};
 ghost use Rattle.rules.specs.declared.Command.the-variants.{Phase};
-ghost use Rattle.engine.specs.Outcome.{OutcomeIs, isMatch, withPhaseAt};
+ghost use Rattle.engine.specs.Decision.{DecisionIs};
+ghost use Rattle.engine.specs.Outcome.{isMatch};
 use crate::answers;
-use crate::answers::Outcome;
+use crate::updates;
+use crate::updates::Decision;
+use crate::updates::Pending;
+use crate::updates::Update;
 use rules::AUCTION;
 use rules::CLOSED;
 use rules::CONTINUOUS;
@@ -47,7 +50,7 @@ fn is_known(phase: u32) -> bool
 }
 
 // Whether a change is the one that makes a match: from auction to continuous. Requires at most 4 contracts.
-pub fn is_match(state: State, contract: u32, phase: u32) -> bool
+fn is_match(state: State, contract: u32, phase: u32) -> bool
     requires { ⌜ state .contractcount ≤ maxContracts ⌝ }
     ensures { λ r. ⌜ r ≡ isMatch state contract phase ⌝ }
 {
@@ -63,21 +66,7 @@ pub fn is_match(state: State, contract: u32, phase: u32) -> bool
     terms.phase == AUCTION
 }
 
-// The state with another phase at one contract's place.
-fn with_phase(state: State, place: usize, phase: u32) -> State
-    requires { ⌜ place < maxContracts ⌝ }
-    ensures { λ r. ⌜ r ≡ withPhaseAt state place phase ⌝ }
-{
-    let mut next = state;
-    let mut contracts = state.contracts;
-    let mut contract = contracts[place];
-    contract.phase = phase;
-    contracts[place] = contract;
-    next.contracts = contracts;
-    next
-}
-
-// Every change but that which makes a match: the areas stay as they are.
+// The change that makes a match is left for all accounts.
 pub fn change(
     state: State,
     buys: &[u32],
@@ -85,22 +74,25 @@ pub fn change(
     trades: &[u32],
     contract: u32,
     phase: u32,
-) -> Outcome
-    requires { ⌜ WellFormedState state (now buys) (now sells) (now trades) × (isMatch state contract phase ≡ false) ⌝ }
-    ensures { λ r. ⌜ OutcomeIs (stepIn (memory state (now (buys .entry)) (now (sells .entry)) (now (trades .entry))) (Phase contract phase)) r (now (buys .entry)) (now (sells .entry)) (now (trades .entry)) ⌝ }
+) -> Decision
+    requires { ⌜ WellFormedState state (now buys) (now sells) (now trades) ⌝ }
+    ensures { λ r. ⌜ DecisionIs (memory state (now (buys .entry)) (now (sells .entry)) (now (trades .entry))) (Phase contract phase) r (now (buys .entry)) (now (sells .entry)) (now (trades .entry)) ⌝ }
 {
+    if is_match(state, contract, phase) {
+        return updates::left(Pending::Matching(contract));
+    }
     if !is_known(phase) {
-        return answers::refused(state, 1);
+        return updates::refused(1);
     }
     if answers::is_absent(contract, state.contractcount) {
-        return answers::refused(state, 3);
+        return updates::refused(3);
     }
-    let place = laws::place_of(contract);
-    let contracts = state.contracts;
-    let terms = contracts[place];
-    let from = terms.phase;
-    if !is_listed(from, phase) {
-        return answers::refused(state, 17);
+    let mut listed = updates::listed_at(state, laws::place_of(contract));
+    let mut terms = listed.terms;
+    if !is_listed(terms.phase, phase) {
+        return updates::refused(17);
     }
-    answers::accepted(with_phase(state, place, phase), 0, 0, 0)
+    terms.phase = phase;
+    listed.terms = terms;
+    updates::accepted(Update::Listing(listed), 0, 0)
 }

@@ -5,13 +5,18 @@ ghost use Prim.Native.Nat.{_+_, _<_, _≤_};
 ghost use lib.ListN.{length, set};
 ghost use Rattle.rules.specs.Bounds.{maxContracts, maxAccounts};
 ghost use Rattle.rules.specs.Answers.{pullRefusals, removalRefused};
-ghost use Rattle.rules.specs.Memory.{queueIn, stepIn, memory, WellFormedState, firstWord};
+ghost use Rattle.rules.specs.Memory.{queueIn, memory, WellFormedState, firstWord};
 ghost use Rattle.rules.specs.WellFormed.{numbers, usedOnce};
 ghost use Rattle.rules.specs.declared.Command.the-variants.{Cancel, Pull};
-ghost use Rattle.engine.specs.Outcome.{OutcomeIs, CodeIn, withCountsIn};
+ghost use Rattle.engine.specs.Decision.{DecisionIs, countedAs};
+ghost use Rattle.engine.specs.Outcome.{CodeIn, withCountsIn};
 ghost use Rattle.engine.specs.Removal.{CancelledIs};
+ghost use Rattle.engine.specs.declared.updates.Update.the-variants.{Listing};
 use crate::answers;
-use crate::answers::Outcome;
+use crate::updates;
+use crate::updates::Decision;
+use crate::updates::Listed;
+use crate::updates::Update;
 use rules::AUCTION;
 use rules::CONTINUOUS;
 use rules::Contract;
@@ -101,6 +106,16 @@ fn cancel_in(area: &mut [u32], c: usize, count: usize, account: u32, number: u32
     }
 }
 
+// The contract with other counts of resting orders.
+fn with_orders(listed: Listed, bought: usize, sold: usize) -> Update
+    ensures { λ r. ⌜ r ≡ Listing (countedAs listed bought sold) ⌝ }
+{
+    let mut next = listed;
+    next.bought = bought;
+    next.sold = sold;
+    Update::Listing(next)
+}
+
 pub fn cancel(
     state: State,
     buys: &mut [u32],
@@ -110,35 +125,35 @@ pub fn cancel(
     contract: u32,
     operator: bool,
     number: u32,
-) -> Outcome
+) -> Decision
     requires { ⌜ WellFormedState state (now buys) (now sells) (now trades) ⌝ }
-    ensures { λ r. ⌜ OutcomeIs (stepIn (memory state (now (buys .entry)) (now (sells .entry)) (now (trades .entry))) (Cancel account contract operator number)) r (now (buys .exit)) (now (sells .exit)) (now (trades .entry)) ⌝ }
+    ensures { λ r. ⌜ DecisionIs (memory state (now (buys .entry)) (now (sells .entry)) (now (trades .entry))) (Cancel account contract operator number) r (now (buys .exit)) (now (sells .exit)) (now (trades .entry)) ⌝ }
 {
     let code = refusal(state, account, contract, operator);
     if code != 0 {
-        return answers::refused(state, code);
+        return updates::refused(code);
     }
     let c = laws::place_of(contract);
     let a = laws::place_word(account);
-    let buycounts = state.buycounts;
-    let sellcounts = state.sellcounts;
-    let bought = buycounts[c];
-    let sold = sellcounts[c];
-    let bid = cancel_in(buys, c, bought, a, number);
+    let listed = updates::listed_at(state, c);
+    let bid = cancel_in(buys, c, listed.bought, a, number);
     if bid.code == 0 {
-        return answers::accepted(with_counts(state, c, bid.count, sold), number, 0, bid.lots);
+        return updates::accepted(
+            with_orders(listed, bid.count, listed.sold),
+            number,
+            bid.lots,
+        );
     }
     if bid.code == 15 {
-        return answers::refused(state, 15);
+        return updates::refused(15);
     }
-    let offer = cancel_in(sells, c, sold, a, number);
+    let offer = cancel_in(sells, c, listed.sold, a, number);
     if offer.code != 0 {
-        return answers::refused(state, offer.code);
+        return updates::refused(offer.code);
     }
-    answers::accepted(
-        with_counts(state, c, bought, offer.count),
+    updates::accepted(
+        with_orders(listed, listed.bought, offer.count),
         number,
-        0,
         offer.lots,
     )
 }
@@ -151,22 +166,19 @@ pub fn pull(
     account: u32,
     contract: u32,
     operator: bool,
-) -> Outcome
+) -> Decision
     requires { ⌜ WellFormedState state (now buys) (now sells) (now trades) ⌝ }
-    ensures { λ r. ⌜ OutcomeIs (stepIn (memory state (now (buys .entry)) (now (sells .entry)) (now (trades .entry))) (Pull account contract operator)) r (now (buys .exit)) (now (sells .exit)) (now (trades .entry)) ⌝ }
+    ensures { λ r. ⌜ DecisionIs (memory state (now (buys .entry)) (now (sells .entry)) (now (trades .entry))) (Pull account contract operator) r (now (buys .exit)) (now (sells .exit)) (now (trades .entry)) ⌝ }
 {
     let code = refusal(state, account, contract, operator);
     if code != 0 {
-        return answers::refused(state, code);
+        return updates::refused(code);
     }
     let c = laws::place_of(contract);
     let a = laws::place_word(account);
-    let buycounts = state.buycounts;
-    let sellcounts = state.sellcounts;
-    let bought = buycounts[c];
-    let sold = sellcounts[c];
-    let bid = book::removal::pull(buys, c, bought, a, false);
-    let offer = book::removal::pull(sells, c, sold, a, false);
+    let listed = updates::listed_at(state, c);
+    let bid = book::removal::pull(buys, c, listed.bought, a, false);
+    let offer = book::removal::pull(sells, c, listed.sold, a, false);
     let lots = (bid.lots + offer.lots) as u32;
-    answers::accepted(with_counts(state, c, bid.count, offer.count), 0, 0, lots)
+    updates::accepted(with_orders(listed, bid.count, offer.count), 0, lots)
 }

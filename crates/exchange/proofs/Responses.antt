@@ -2,7 +2,7 @@
 -- and its report. Assumes nothing.
 use mathlib.Core.Bool.{true, false}
 use mathlib.Core.List.{List}
-use mathlib.Core.Path.{_≡_, refl, ap, _∙_, subst, subst⁻¹}
+use mathlib.Core.Path.{_≡_, refl, ap, _∙_, subst}
 use Prim.Native.Nat.{ℕ, zero, suc, _<_, _≤_}
 use borrow.Author.Tests.{le-leb, lt-leb}
 use native.Mathlib.Omega.{arith}
@@ -98,22 +98,6 @@ module _ {s : State} {buys sells trades : List ℕ} (k : WellFormedState s buys 
         memory = rw e (k′ .memory);
         report = rw (e, k′ .prices, k′ .closing, k′ .holding, k′ .charged);
       }
-
--- ---- a command that is told to be another: of a kind, or that of certain bytes
-
-pub response-as : (m : Memory) {command told : Command} {r : Response} {buys sells trades : List ℕ} → command ≡ told → ResponseIs m told r buys sells trades
-    → ResponseIs m command r buys sells trades
-response-as m {command} {told} {r} {buys} {sells} {trades} e k = subst⁻¹ (λ (d : Command). ResponseIs m d r buys sells trades) e k
-
-pub plain-as : (m : Memory) {command told : Command} (o : Outcome) {r : Response} {buys sells trades : List ℕ} → command ≡ told → isSettle told ≡ false
-    → OutcomeIs (stepIn m told) o buys sells trades → r ≡ withReport o noReport → ResponseIs m command r buys sells trades
-plain-as m {command} {told} o {r} {buys} {sells} {trades} e n k f =
-    response-as m e (plain-response m told o r buys sells trades n k f)
-
-pub malformed-as : (s : State) (buys sells trades : List ℕ) {command : Command} (o : Outcome) {r : Response} → command ≡ Malformed
-    → o ≡ record { answer = answerOf 1 0 0 0; state = s } → r ≡ withReport o noReport → ResponseIs (memory s buys sells trades) command r buys sells trades
-malformed-as s buys sells trades o e g f =
-    plain-as (memory s buys sells trades) o e refl (refusal s buys sells trades Malformed 1 (omega arith) (malformed-code (memory s buys sells trades)) g) f
 
 -- ---- any state: code 21, and the command of a well-formed one
 

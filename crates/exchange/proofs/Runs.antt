@@ -20,39 +20,56 @@ pub run-declared : (m : Memory) (cs : List Command) → Declared (m .state) → 
 run-declared = end-declared memory-keeps read-back
 
 -- the memory of the rules' run is what is promised
-ran-is : (m : Memory) → Declared (m .state) → (cs : List Command) {m′ : Memory} → m′ ≡ run m cs → RanIs m cs m′
+pub ran-is : (m : Memory) → Declared (m .state) → (cs : List Command) {m′ : Memory} → m′ ≡ run m cs → RanIs m cs m′
 ran-is m d cs {m′} e = record { memory = e; money = money-left m d cs m′ e }
 
-module _ (m : Memory) (d : Declared (m .state)) (bytes : List ℕ) where
-  pub refused-ran : wellFormedMemory m ≡ false → RanIs m (wholeCommands bytes) m
-  refused-ran w = ran-is m d (wholeCommands bytes) (sym (run-stays m w (wholeCommands bytes)))
+pub refused-ran : (m : Memory) → Declared (m .state) → (bytes : List ℕ) → wellFormedMemory m ≡ false → RanIs m (wholeCommands bytes) m
+refused-ran m d bytes w = ran-is m d (wholeCommands bytes) (sym (run-stays m w (wholeCommands bytes)))
 
-  module _ (w : wellFormedMemory m ≡ true) where
-    -- what the first k commands leave is well formed
-    pub running : (k : ℕ) {s : State} {buys sells trades : List ℕ} → memory s buys sells trades ≡ run m (firstCommands bytes k) → WellFormedState s buys sells trades
-    running k e =
-        record {
-          declared = subst⁻¹ (λ (v : Memory). Declared (v .state)) e (run-declared m (firstCommands bytes k) d);
-          formed = subst⁻¹ (λ (v : Memory). wellFormedMemory v ≡ true) e (run-keeps m (firstCommands bytes k) w);
-        }
+-- ---- the loop: what the first k commands leave
 
-    -- one more
-    pub one-more : (k : ℕ) (m′ : Memory) → stepIn (run m (firstCommands bytes k)) (commandFrom bytes (commandWidth * k)) .memory ≡ m′
-        → m′ ≡ run m (firstCommands bytes (k + 1))
-    unfolding firstCommands respond
-    one-more k m′ e =
-        sym e
-        ∙ sym (rw (add-one k, tabulate-last k (λ i. commandFrom bytes (commandWidth * i)), run-last m (tabulate k (λ i. commandFrom bytes (commandWidth * i))) (commandFrom bytes (commandWidth * k)), run-keeps m (tabulate k (λ i. commandFrom bytes (commandWidth * i))) w))
-
-    pub all-ran : (k : ℕ) (m′ : Memory) → k ≡ length bytes / commandWidth → m′ ≡ run m (firstCommands bytes k) → RanIs m (wholeCommands bytes) m′
-    all-ran k m′ e h = ran-is m d (wholeCommands bytes) (subst (λ (n : ℕ). m′ ≡ run m (firstCommands bytes n)) e h)
-
-    -- a turn of the loop
-    pub one-turn : (k : ℕ) {s : State} {buys sells trades : List ℕ} {m′ : Memory} → memory s buys sells trades ≡ run m (firstCommands bytes k)
-        → m′ ≡ stepIn (memory s buys sells trades) (commandFrom bytes (commandWidth * k)) .memory → m′ ≡ run m (firstCommands bytes (k + 1))
-    one-turn k {m′ = m′} e h = one-more k m′ (sym (h ∙ ap (λ (v : Memory). stepIn v (commandFrom bytes (commandWidth * k)) .memory) e))
+pub record Running (s₀ : State) (buys₀ sells₀ trades₀ bytes : List ℕ) (s : State) (buys sells trades : List ℕ) (k : ℕ) : Type 0 where
+  pub begun : WellFormedState s₀ buys₀ sells₀ trades₀
+  pub ran : memory s buys sells trades ≡ run (memory s₀ buys₀ sells₀ trades₀) (firstCommands bytes k)
+  pub buys-kept : length buys ≡ length buys₀
+  pub sells-kept : length sells ≡ length sells₀
+  pub trades-kept : length trades ≡ length trades₀
 
 -- before the first command
-pub none-ran : (m : Memory) (bytes : List ℕ) → m ≡ run m (firstCommands bytes 0)
+pub running-none : {s : State} {buys sells trades : List ℕ} (bytes : List ℕ) → WellFormedState s buys sells trades → Running s buys sells trades bytes s buys sells trades 0
 unfolding firstCommands tabulate run
-none-ran m bytes = refl
+running-none bytes w = record { begun = w; ran = refl; buys-kept = refl; sells-kept = refl; trades-kept = refl }
+
+module _ {s₀ : State} {buys₀ sells₀ trades₀ bytes : List ℕ} {s : State} {buys sells trades : List ℕ} {k : ℕ} (h : Running s₀ buys₀ sells₀ trades₀ bytes s buys sells trades k) where
+  abbrev m : Memory
+  m = memory s₀ buys₀ sells₀ trades₀
+
+  -- what they leave is well formed
+  pub running-formed : WellFormedState s buys sells trades
+  running-formed =
+      record {
+        declared = subst⁻¹ (λ (v : Memory). Declared (v .state)) (h .ran) (run-declared m (firstCommands bytes k) (h .begun .declared));
+        formed = subst⁻¹ (λ (v : Memory). wellFormedMemory v ≡ true) (h .ran) (run-keeps m (firstCommands bytes k) (h .begun .formed));
+      }
+
+  -- one more
+  one-more : (m′ : Memory) → stepIn (run m (firstCommands bytes k)) (commandFrom bytes (commandWidth * k)) .memory ≡ m′ → m′ ≡ run m (firstCommands bytes (k + 1))
+  unfolding firstCommands respond
+  one-more m′ e =
+      sym e
+      ∙ sym (rw (add-one k, tabulate-last k (λ i. commandFrom bytes (commandWidth * i)), run-last m (tabulate k (λ i. commandFrom bytes (commandWidth * i))) (commandFrom bytes (commandWidth * k)), run-keeps m (tabulate k (λ i. commandFrom bytes (commandWidth * i))) (h .begun .formed)))
+
+  pub running-on : {command : Command} {s′ : State} {buys′ sells′ trades′ : List ℕ} → command ≡ commandFrom bytes (commandWidth * k)
+      → memory s′ buys′ sells′ trades′ ≡ stepIn (memory s buys sells trades) command .memory → length buys′ ≡ length buys → length sells′ ≡ length sells → length trades′ ≡ length trades
+      → Running s₀ buys₀ sells₀ trades₀ bytes s′ buys′ sells′ trades′ (k + 1)
+  running-on c e b l t =
+      record {
+        begun = h .begun;
+        ran = one-more _ (sym (e ∙ ap (λ (v : Command). stepIn (memory s buys sells trades) v .memory) c ∙ ap (λ (v : Memory). stepIn v (commandFrom bytes (commandWidth * k)) .memory) (h .ran)));
+        buys-kept = b ∙ h .buys-kept;
+        sells-kept = l ∙ h .sells-kept;
+        trades-kept = t ∙ h .trades-kept;
+      }
+
+  pub running-done : k ≡ length bytes / commandWidth → memory s buys sells trades ≡ run m (wholeCommands bytes)
+  running-done e = subst (λ (n : ℕ). memory s buys sells trades ≡ run m (firstCommands bytes n)) e (h .ran)

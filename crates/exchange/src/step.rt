@@ -1,96 +1,114 @@
-// One command on a well-formed state, as such and as 24 bytes. For our own crates.
-ghost use Prim.Native.Nat.{_+_, _≤_};
-ghost use lib.ListN.{length};
-ghost use Rattle.rules.specs.DayFile.{commandFrom, commandWidth};
+// One command on a well-formed state: decided without a change of the state, and written where it stands; or carried out with all accounts. For
+// our own crates.
 ghost use Rattle.rules.specs.Memory.{memory, WellFormedState};
+ghost use Rattle.commands.specs.Accounts.{accountNumber};
+ghost use Rattle.engine.specs.Decision.{Due, HeldBy, commandLeft};
+ghost use Rattle.exchange.specs.Decided.{DecidedIs};
 ghost use Rattle.exchange.specs.Response.{ResponseIs};
 use crate::settling;
 use crate::settling::Response;
-use engine::answers;
+use engine::answers::Outcome;
 use engine::payments;
+use engine::phases;
 use engine::removal;
+use engine::updates;
+use engine::updates::Decision;
+use engine::updates::Pending;
+use engine::updates::Update;
+use rules::Account;
 use rules::Command;
 use rules::State;
 
-pub fn step(
+// What is decided of a command. `who` is the account that it names.
+pub fn decide(
     state: State,
+    who: Account,
     buys: &mut [u32],
     sells: &mut [u32],
-    trades: &mut [u32],
+    trades: &[u32],
     command: Command,
-) -> Response
-    requires { ⌜ WellFormedState state (now buys) (now sells) (now trades) ⌝ }
-    ensures { λ r. ⌜ ResponseIs (memory state (now (buys .entry)) (now (sells .entry)) (now (trades .entry))) command r (now (buys .exit)) (now (sells .exit)) (now (trades .exit)) ⌝ }
+) -> Decision
+    requires { ⌜ WellFormedState state (now buys) (now sells) (now trades) × HeldBy state (accountNumber command) who ⌝ }
+    ensures { λ r. ⌜ DecidedIs (memory state (now (buys .entry)) (now (sells .entry)) (now (trades .entry))) command r (now (buys .exit)) (now (sells .exit)) (now (trades .entry)) ⌝ }
 {
     match command {
-        Command::Malformed => settling::plain(answers::refused(state, 1)),
-        Command::Deposit { account, amount } => settling::plain(payments::deposit(
-            state,
-            &buys[..],
-            &sells[..],
-            &trades[..],
-            account,
-            amount,
-        )),
-        Command::Withdraw { account, amount } => settling::plain(payments::withdraw(
-            state,
-            &buys[..],
-            &sells[..],
-            &trades[..],
-            account,
-            amount,
-        )),
-        Command::Insert(o) => settling::plain(insertion::insert(state, buys, sells, trades, o)),
+        Command::Malformed => updates::refused(1),
+        Command::Deposit { account, amount } => {
+            payments::deposit(state, who, &buys[..], &sells[..], trades, account, amount)
+        }
+        Command::Withdraw { account, amount } => {
+            payments::withdraw(state, who, &buys[..], &sells[..], trades, account, amount)
+        }
+        Command::Insert(o) => updates::left(Pending::Inserting(o)),
         Command::Cancel {
             account,
             contract,
             operator,
             number,
-        } => settling::plain(removal::cancel(
-            state,
-            buys,
-            sells,
-            &trades[..],
-            account,
-            contract,
-            operator,
-            number,
-        )),
-        Command::Pull {
-            account,
-            contract,
-            operator,
-        } => settling::plain(removal::pull(
-            state,
-            buys,
-            sells,
-            &trades[..],
-            account,
-            contract,
-            operator,
-        )),
-        Command::Phase { contract, phase } => {
-            settling::plain(opening::change(state, buys, sells, trades, contract, phase))
-        }
-        Command::Settle => settling::settle(state, buys, sells, trades),
-        Command::Quote {
-            account,
-            contract,
-            lots,
-            buy,
-            sell,
-        } => settling::plain(quoting::quote(
+        } => removal::cancel(
             state,
             buys,
             sells,
             trades,
             account,
             contract,
+            operator,
+            number,
+        ),
+        Command::Pull {
+            account,
+            contract,
+            operator,
+        } => removal::pull(state, buys, sells, trades, account, contract, operator),
+        Command::Phase { contract, phase } => {
+            phases::change(state, &buys[..], &sells[..], trades, contract, phase)
+        }
+        Command::Settle => updates::left(Pending::Settling),
+        Command::Quote {
+            account,
+            contract,
             lots,
             buy,
             sell,
-        )),
+        } => updates::left(Pending::Quoting {
+            account,
+            contract,
+            lots,
+            buy,
+            sell,
+        }),
         Command::Change {
+            account,
+            contract,
+            number,
+            lots,
+            price,
+        } => updates::left(Pending::Changing {
+            account,
+            contract,
+            number,
+            lots,
+            price,
+        }),
+    }
+}
+
+// What is left of a command, carried out with all accounts.
+pub fn carry_out(
+    state: State,
+    buys: &mut [u32],
+    sells: &mut [u32],
+    trades: &mut [u32],
+    pending: Pending,
+) -> Response
+    requires { ⌜ WellFormedState state (now buys) (now sells) (now trades) × Due state pending ⌝ }
+    ensures { λ r. ⌜ ResponseIs (memory state (now (buys .entry)) (now (sells .entry)) (now (trades .entry))) (commandLeft pending) r (now (buys .exit)) (now (sells .exit)) (now (trades .exit)) ⌝ }
+{
+    match pending {
+        Pending::Inserting(o) => {
+            settling::plain(insertion::insert(state, buys, sells, trades, o))
+        }
+        Pending::Changing {
             account,
             contract,
             number,
@@ -107,22 +125,74 @@ pub fn step(
             lots,
             price,
         )),
+        Pending::Quoting {
+            account,
+            contract,
+            lots,
+            buy,
+            sell,
+        } => settling::plain(quoting::quote(
+            state,
+            buys,
+            sells,
+            trades,
+            account,
+            contract,
+            lots,
+            buy,
+            sell,
+        )),
+        Pending::Matching(contract) => {
+            settling::plain(opening::leave_auction(state, buys, sells, trades, contract))
+        }
+        Pending::Settling => settling::settle(state, buys, sells, trades),
     }
 }
 
-// The command whose 24 bytes stand at a place of a list.
-pub fn step_at(
+pub fn step(
     state: State,
     buys: &mut [u32],
     sells: &mut [u32],
     trades: &mut [u32],
-    bytes: &[u8],
-    at: usize,
+    command: Command,
 ) -> Response
-    requires { ⌜ WellFormedState state (now buys) (now sells) (now trades) × (at + commandWidth ≤ length (now bytes)) ⌝ }
-    ensures { λ r. ⌜ ResponseIs (memory state (now (buys .entry)) (now (sells .entry)) (now (trades .entry))) (commandFrom (now (bytes .entry)) at) r (now (buys .exit)) (now (sells .exit)) (now (trades .exit)) ⌝ }
+    requires { ⌜ WellFormedState state (now buys) (now sells) (now trades) ⌝ }
+    ensures { λ r. ⌜ ResponseIs (memory state (now (buys .entry)) (now (sells .entry)) (now (trades .entry))) command r (now (buys .exit)) (now (sells .exit)) (now (trades .exit)) ⌝ }
 {
-    let record = endian::reading::record_at(bytes, at);
-    let command = commands::command_of(record);
-    step(state, buys, sells, trades, command)
+    let mut next = state;
+    let a = commands::account_place(command, next.accountcount);
+    let who = next.accounts[a];
+    let decision = decide(next, who, buys, sells, &trades[..], command);
+    let answer = decision.answer;
+    let update = decision.update;
+    match update {
+        Update::Nothing => settling::plain(Outcome {
+            answer,
+            state: next,
+        }),
+        Update::Balance { place, balance } => {
+            let mut holder = next.accounts[place];
+            holder.balance = balance;
+            next.accounts[place] = holder;
+            settling::plain(Outcome {
+                answer,
+                state: next,
+            })
+        }
+        Update::Listing(l) => {
+            let c = l.place;
+            let terms = l.terms;
+            next.contracts[c] = terms;
+            next.buycounts[c] = l.bought;
+            next.sellcounts[c] = l.sold;
+            next.tradecount = l.recorded;
+            next.next = l.next;
+            next.nextstamp = l.nextstamp;
+            settling::plain(Outcome {
+                answer,
+                state: next,
+            })
+        }
+        Update::Left(pending) => carry_out(next, buys, sells, trades, pending),
+    }
 }

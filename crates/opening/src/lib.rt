@@ -1,4 +1,4 @@
-// A change of a contract's state, with the match where it leaves auction (document 02, ticket 4). For our own crates: it asks for a
+// The change of a contract's state that makes a match, out of auction (document 02, ticket 4). For our own crates: it asks for a
 // well-formed state.
 ghost use mathlib.Core.Bool.{true};
 ghost use mathlib.Core.Path.{_≡_};
@@ -13,7 +13,6 @@ use auction::matched::Match;
 use auction::price;
 use engine::answers;
 use engine::answers::Outcome;
-use engine::phases;
 use rules::CONTINUOUS;
 use rules::State;
 
@@ -47,7 +46,7 @@ fn with_match(state: State, c: usize, m: Match) -> State
 }
 
 // The change from auction to continuous: 12 if the match needs more room than the day has left, and then nothing has happened.
-fn leave_auction(
+pub fn leave_auction(
     state: State,
     buys: &mut [u32],
     sells: &mut [u32],
@@ -83,21 +82,4 @@ fn leave_auction(
         accounts,
     );
     answers::accepted(with_match(state, c, m), 0, m.traded, 0)
-}
-
-pub fn change(
-    state: State,
-    buys: &mut [u32],
-    sells: &mut [u32],
-    trades: &mut [u32],
-    contract: u32,
-    phase: u32,
-) -> Outcome
-    requires { ⌜ WellFormedState state (now buys) (now sells) (now trades) ⌝ }
-    ensures { λ r. ⌜ OutcomeIs (stepIn (memory state (now (buys .entry)) (now (sells .entry)) (now (trades .entry))) (Phase contract phase)) r (now (buys .exit)) (now (sells .exit)) (now (trades .exit)) ⌝ }
-{
-    if phases::is_match(state, contract, phase) {
-        return leave_auction(state, buys, sells, trades, contract);
-    }
-    phases::change(state, &buys[..], &sells[..], &trades[..], contract, phase)
 }

@@ -1,121 +1,91 @@
 -- `payments::deposit` meets its contract: each return by its law in Paying.antt. Assumes nothing.
-use mathlib.Core.Bool.{false}
-use mathlib.Core.Path.{_≡_, sym, _∙_}
+use mathlib.Core.Path.{sym, _∙_}
 use Prim.Native.Nat.{_^_}
 use native.Mathlib.Omega.{arith}
 use borrow.Author.Needs.{needs}
-use lib.IntN.{pos, _+ℤ_}
-use lib.ListN.{getD}
-use lib.Signed.{ltZ}
 use Rattle.rules.specs.Bounds.{balanceMost}
-use Rattle.laws.specs.Bound.{Within, within-fits, within-pos}
+use Rattle.laws.specs.Bound.{within-fits, within-pos}
 use Rattle.laws.proofs.Signed.{add-fits, add-back, back}
-use Rattle.rules.specs.Answers.{amountRefused}
-use Rattle.rules.specs.Exchange.{noAccount, isAbsent}
-use Rattle.engine.proofs.Formed.{account-fits}
 use Rattle.engine.proofs.Paying.{amount-high, balance-fits, deposit-absent, deposit-amount, deposit-high, deposit-accepted}
 use Rattle.engine.proofs.Tests.{place-below}
 use Rattle.engine.proofs.payments.deposit.Statement.{statement}
 use Rattle.engine.proofs.payments.deposit.Tie as tie
 
--- ---- what the tests have shown
+abbrev start : tie.After-is-absent → tie.Start
+start c = c .before .before .before .before
 
-present : (c : tie.Else1) → isAbsent (c .before .before .before .before .before .args .account) (c .before .before .before .before .before .args .t1 .accountcount) ≡ false
-present c = sym (c .before .is-absent .ensures) ∙ c .if1 .left
-
-right : (c : tie.Else2) → amountRefused (c .before .before .before .before .before .before .before .args .amount) ≡ false
-right c = sym (c .before .amount-refused .ensures) ∙ c .if2 .left
-
-small : (c : tie.Else2) → Within (10 ^ 15) (pos (c .before .before .before .before .before .before .before .args .amount))
-small c = within-pos (amount-high _ (right c))
-
-balance : (c : tie.After-place-of) → Within balanceMost (getD (c .before .before .before .before .before .before .before .before .args .t1 .accounts) (c .place-of .result) noAccount .balance)
-balance c = balance-fits (c .before .before .before .before .before .before .before .before .pre) _ (present (c .before .before .before)) (c .place-of .ensures)
-
-high : (c : tie.After-lifts-too-high)
-    → c .lifts-too-high .result ≡ ltZ (pos (10 ^ 18)) (getD (c .before .before .before .before .before .before .before .before .before .before .before .args .t1 .accounts) (c .before .before .before .place-of .result) noAccount .balance +ℤ pos (c .before .before .before .before .before .before .before .before .before .before .before .args .amount))
-high c = c .lifts-too-high .ensures ∙ rw (back balanceMost (omega arith) (balance (c .before .before .before)))
-
--- ---- the needs
-
-is-absent-requires : tie.Need-is-absent-requires
-is-absent-requires c κs = search needs
-
-refused-requires : tie.Need-refused-requires
-refused-requires c κs = search needs
+-- from the test of the amount to that of the account
+abbrev tested : tie.Else2 → tie.After-is-absent
+tested c = c .before .before .before
 
 returns : tie.Need-returns
-returns c = deposit-absent (c .before .before .before .before .before .before .pre) _ _ (sym (c .before .before .is-absent .ensures) ∙ c .before .if1 .taken) (c .refused .ensures)
-
-amount-refused-requires : tie.Need-amount-refused-requires
-amount-refused-requires c κs = search needs
-
-refused-requires-2 : tie.Need-refused-requires-2
-refused-requires-2 c κs = search needs
+returns c = deposit-absent (start (c .before .before) .pre .0) _ _ (sym (c .before .before .is-absent .ensures) ∙ c .before .if1 .taken) (c .refused .ensures)
 
 returns-2 : tie.Need-returns-2
 returns-2 c =
-    deposit-amount (c .before .before .before .before .before .before .before .before .pre) _ _ (present (c .before .before .before)) (sym (c .before .before .amount-refused .ensures) ∙ c .before .if2 .taken)
+    let account = c .before .before .before in
+    deposit-amount (start (account .before) .pre .0) _ _ (sym (account .before .is-absent .ensures) ∙ account .if1 .left) (sym (c .before .before .amount-refused .ensures) ∙ c .before .if2 .taken)
     (c .refused2 .ensures)
 
-place-of-requires : tie.Need-place-of-requires
-place-of-requires c κs = place-below _ _ (present (c .before .before)) .0
-
-mul-who : tie.Need-mul-who
-mul-who c = search needs
-
-element-copy-out-who : tie.Need-element-copy-out-who
-element-copy-out-who c = account-fits (c .before .before .before .before .before .before .before .before .pre) _ (c .place-of .ensures) (present (c .before .before .before))
-
 lifts-too-high-requires : tie.Need-lifts-too-high-requires
-lifts-too-high-requires c κs = (rw (back balanceMost (omega arith) (balance (c .before .before))) (balance (c .before .before)), amount-high _ (right (c .before .before .before)))
-
-refused-requires-3 : tie.Need-refused-requires-3
-refused-requires-3 c κs = search needs
+lifts-too-high-requires c κs =
+    let right = c .before in
+    let pre = start (tested right) .pre in
+    let fits = balance-fits (pre .0) (start (tested right) .args .account) (sym (tested right .is-absent .ensures) ∙ right .before .before .if1 .left) (pre .1) in
+    (rw (back balanceMost (omega arith) fits) fits, amount-high _ (sym (right .before .amount-refused .ensures) ∙ right .if2 .left))
 
 returns-3 : tie.Need-returns-3
 returns-3 c =
-    deposit-high (c .before .before .before .before .before .before .before .before .before .before .before .before .before .pre) _ _ (present (c .before .before .before .before .before .before .before .before)) (right (c .before .before .before .before .before .before)) (c .before .before .before .before .before .place-of .ensures)
-    (sym (high (c .before .before)) ∙ c .before .if3 .taken) (c .refused3 .ensures)
+    let right = c .before .before .before .before in
+    let pre = start (tested right) .pre in
+    let present = sym (tested right .is-absent .ensures) ∙ right .before .before .if1 .left in
+    deposit-high (pre .0) _ _ present (pre .1) (sym (right .before .amount-refused .ensures) ∙ right .if2 .left)
+    (back balanceMost (omega arith) (balance-fits (pre .0) (start (tested right) .args .account) present (pre .1))) (c .before .before .lifts-too-high .ensures) (c .before .if3 .taken) (c .refused3 .ensures)
 
-cast-with-balance : tie.Need-cast-with-balance
-cast-with-balance c = within-fits (10 ^ 15) (omega arith) (small (c .before .before .before .before .before))
+place-of-requires : tie.Need-place-of-requires
+place-of-requires c κs =
+    let right = c .before .before .before in
+    place-below _ _ (sym (tested right .is-absent .ensures) ∙ right .before .before .if1 .left) .0
 
-add-with-balance : tie.Need-add-with-balance
-add-with-balance c = add-fits (balance (c .before .before .before .before)) (small (c .before .before .before .before .before)) (omega arith)
+cast-paid : tie.Need-cast-paid
+cast-paid c =
+    let right = c .before .before .before .before in
+    within-fits (10 ^ 15) (omega arith) (within-pos (amount-high _ (sym (right .before .amount-refused .ensures) ∙ right .if2 .left)))
 
-with-balance-requires : tie.Need-with-balance-requires
-with-balance-requires c κs = account-fits (c .before .before .before .before .before .before .before .before .before .before .before .before .pre) _ (c .before .before .before .before .place-of .ensures) (present (c .before .before .before .before .before .before .before))
-
-accepted-requires : tie.Need-accepted-requires
-accepted-requires c κs = search needs
+add-paid : tie.Need-add-paid
+add-paid c =
+    let right = c .before .before .before .before in
+    let pre = start (tested right) .pre in
+    add-fits (balance-fits (pre .0) (start (tested right) .args .account) (sym (tested right .is-absent .ensures) ∙ right .before .before .if1 .left) (pre .1))
+    (within-pos (amount-high _ (sym (right .before .amount-refused .ensures) ∙ right .if2 .left))) (omega arith)
 
 returns-4 : tie.Need-returns-4
 returns-4 c =
-    let after = c .before .before .before .before .before in
-    deposit-accepted (after .before .before .before .before .before .before .before .before .before .pre) _ _ (present (after .before .before .before .before)) (right (after .before .before)) (after .before .place-of .ensures)
-    (sym (high (c .before .before .before)) ∙ c .before .before .if3 .left)
-    (c .before .with-balance .ensures ∙ rw (add-back (balance (after .before)) (small (after .before .before)) (omega arith)))
-    (c .accepted .ensures)
+    let lifted = c .before .before .before in
+    let right = lifted .before .before in
+    let pre = start (tested right) .pre in
+    let present = sym (tested right .is-absent .ensures) ∙ right .before .before .if1 .left in
+    let small = sym (right .before .amount-refused .ensures) ∙ right .if2 .left in
+    let fits = balance-fits (pre .0) (start (tested right) .args .account) present (pre .1) in
+    deposit-accepted (pre .0) _ _ present (pre .1) small (c .before .place-of .ensures)
+    (back balanceMost (omega arith) fits) (lifted .lifts-too-high .ensures) (c .before .before .if3 .left)
+    (add-back fits (within-pos (amount-high _ small)) (omega arith)) (c .paid .ensures)
 
 pub deposit-spec : {M : Type 1} → statement M
 deposit-spec =
     tie.close
     (tie.spec
-    is-absent-requires
-    refused-requires
+    (λ c κs. search needs)
+    (λ c κs. search needs)
     returns
-    amount-refused-requires
-    refused-requires-2
+    (λ c κs. search needs)
+    (λ c κs. search needs)
     returns-2
-    place-of-requires
-    mul-who
-    element-copy-out-who
     lifts-too-high-requires
-    refused-requires-3
+    (λ c κs. search needs)
     returns-3
-    cast-with-balance
-    add-with-balance
-    with-balance-requires
-    accepted-requires
+    place-of-requires
+    cast-paid
+    add-paid
+    (λ c κs. search needs)
     returns-4)

@@ -1,115 +1,93 @@
 -- `removal::pull` meets its contract: each return by its law in Removals.antt. Assumes nothing.
-use mathlib.Core.Bool.{true, false}
 use mathlib.Core.Path.{_≡_, refl, sym, _∙_}
-use Prim.Native.Nat.{_+_, _*_, _<_, _≤_}
 use native.Mathlib.Omega.{arith}
+use Prim.Native.Nat.{_<_}
 use borrow.Author.Needs.{needs}
 use denote.Ref.{now}
-use Rattle.rules.specs.Bounds.{maxResting, maxLots, maxContracts}
+use Rattle.rules.specs.Bounds.{maxContracts}
 use Rattle.rules.specs.Answers.{firstOf, pullRefusals}
 use Rattle.rules.specs.Memory.{exchangeOf, memory}
 use Rattle.engine.proofs.Formed.{formed}
-use Rattle.engine.proofs.Removals.{account-low, contract-low, contract-fits, side-few, side-room, pulled-high, pull-refused, pull-accepted}
+use Rattle.engine.proofs.Removals.{account-low, contract-low, contract-fits, bids-few, bids-room, offers-few, offers-room, pulled-few, pull-refused, pull-accepted}
 use Rattle.engine.proofs.removal.pull.Statement.{statement}
 use Rattle.engine.proofs.removal.pull.Tie as tie
 
+abbrev start : tie.After-refusal → tie.Start
+start c = c .before .before .before .before
+
 -- ---- what the tests have shown
 
-none : (c : tie.Else1) → let start = c .before .before .before .before .before in
-    firstOf (pullRefusals (exchangeOf (memory (start .args .state) (now (start .args .buys)) (now (start .args .sells)) (now (start .args .trades)))) (start .args .account) (start .args .contract) (start .args .operator)) ≡ 0
-none c = sym (c .before .refusal .ensures (c .before .before .before .before .before .pre .declared) _ _ _) ∙ c .if1 .left
+none : (c : tie.Else1) → let begun = start (c .before) in
+    firstOf (pullRefusals (exchangeOf (memory (begun .args .state) (now (begun .args .buys)) (now (begun .args .sells)) (now (begun .args .trades)))) (begun .args .account) (begun .args .contract) (begun .args .operator)) ≡ 0
+none c = sym (c .before .refusal .ensures (start (c .before) .pre .declared) _ _ _) ∙ c .if1 .left
 
 place : (c : tie.After-place-of) → c .place-of .result < maxContracts
-place c = contract-fits (c .before .before .before .before .before .before .pre) _ _ _ (none (c .before)) (c .place-of .ensures)
-
-few : (c : tie.After-struct-known2) → c .before .before .before .before .before .before .before .before .pull .result .lots + c .before .before .before .before .pull2 .result .lots ≤ 2 * (maxResting * maxLots)
-few c =
-    let after = c .before .before .before .before .before .before .before .before .before .before .before .before .before in
-    let b = pulled-high (after .before .before .before .before .before .before .pre) _ _ _ (none (after .before)) (after .place-of .ensures) false (c .before .before .before .before .before .before .before .before .before .before .before .before .place-word .ensures) (c .before .before .before .before .before .before .before .before .pull .ensures) in
-    let o = pulled-high (after .before .before .before .before .before .before .pre) _ _ _ (none (after .before)) (after .place-of .ensures) true (c .before .before .before .before .before .before .before .before .before .before .before .before .place-word .ensures) (c .before .before .before .before .pull2 .ensures) in
-    omega arith
+place c = contract-fits (start (c .before .before) .pre) _ _ _ (none (c .before)) (c .place-of .ensures)
 
 -- ---- the needs
 
-refusal-requires : tie.Need-refusal-requires
-refusal-requires c κs = let start = c .before .before .before in (formed (start .pre) .contracts-high, formed (start .pre) .accounts-high)
-
-refused-requires : tie.Need-refused-requires
-refused-requires c κs = search needs
-
 returns : tie.Need-returns
-returns c = pull-refused (c .before .before .before .before .before .before .pre) _ _ _ (c .before .before .refusal .ensures (c .before .before .before .before .before .before .pre .declared) _ _ _) (c .before .if1 .taken) (c .refused .ensures)
-
-place-of-requires : tie.Need-place-of-requires
-place-of-requires c κs = contract-low (c .before .before .before .before .before .pre) _ _ _ (none c)
-
-place-word-requires : tie.Need-place-word-requires
-place-word-requires c κs = account-low (c .before .before .before .before .before .before .pre) _ _ _ (none (c .before))
-
-mul-bought : tie.Need-mul-bought
-mul-bought c = search needs
-
-array-read-bought : tie.Need-array-read-bought
-array-read-bought c = place (c .before .before .before)
-
-mul-sold : tie.Need-mul-sold
-mul-sold c = search needs
-
-array-read-sold : tie.Need-array-read-sold
-array-read-sold c = place (c .before .before .before)
+returns c =
+    let tested = c .before .before in
+    pull-refused (start tested .pre) _ _ _ (tested .refusal .ensures (start tested .pre .declared) _ _ _) (c .before .if1 .taken) (c .refused .ensures)
 
 pull-requires : tie.Need-pull-requires
 pull-requires c κs =
-    (side-few (c .before .before .before .before .before .before .before .before .before .before .pre) _ _ _ (none (c .before .before .before .before .before)) (c .before .before .before .before .place-of .ensures) false, side-room (c .before .before .before .before .before .before .before .before .before .before .pre) _ _ _ (none (c .before .before .before .before .before)) (c .before .before .before .before .place-of .ensures) false)
+    let stands = c .before in
+    let named = stands .before .before in
+    let pre = start (named .before .before) .pre in
+    (bids-few pre _ _ _ (none (named .before)) (named .place-of .ensures) (stands .listed-at .ensures), bids-room pre _ _ _ (none (named .before)) (named .place-of .ensures) (stands .listed-at .ensures))
 
 pull-requires-2 : tie.Need-pull-requires-2
 pull-requires-2 c κs =
-    let after = c .before .before .before .before .before .before .before .before in
-    (side-few (after .before .before .before .before .before .before .pre) _ _ _ (none (after .before)) (after .place-of .ensures) true, side-room (after .before .before .before .before .before .before .pre) _ _ _ (none (after .before)) (after .place-of .ensures) true)
+    let bid = c .before .before .before in
+    let stands = bid .before .before in
+    let named = stands .before .before in
+    let pre = start (named .before .before) .pre in
+    (offers-few pre _ _ _ (none (named .before)) (named .place-of .ensures) (stands .listed-at .ensures), offers-room pre _ _ _ (none (named .before)) (named .place-of .ensures) (stands .listed-at .ensures))
 
 add-lots : tie.Need-add-lots
-add-lots c = omega (arith, few c)
+add-lots c =
+    let offer = c .before .before .before .before in
+    let bid = offer .before .before .before .before in
+    let stands = bid .before .before in
+    let named = stands .before .before in
+    omega (arith, pulled-few (start (named .before .before) .pre) _ _ _ (none (named .before)) (named .place-of .ensures) (stands .before .place-word .ensures) (stands .listed-at .ensures) (bid .pull .ensures) (offer .pull2 .ensures))
 
 cast-lots : tie.Need-cast-lots
-cast-lots c = omega (arith, few c)
-
-with-counts-requires : tie.Need-with-counts-requires
-with-counts-requires c κs = place (c .before .before .before .before .before .before .before .before .before .before .before .before .before)
-
-accepted-requires : tie.Need-accepted-requires
-accepted-requires c κs = search needs
-
-same-length : tie.Need-same-length
-same-length c = search needs
-
-same-length-2 : tie.Need-same-length-2
-same-length-2 c = search needs
+cast-lots c =
+    let offer = c .before .before .before .before in
+    let bid = offer .before .before .before .before in
+    let stands = bid .before .before in
+    let named = stands .before .before in
+    omega (arith, pulled-few (start (named .before .before) .pre) _ _ _ (none (named .before)) (named .place-of .ensures) (stands .before .place-word .ensures) (stands .listed-at .ensures) (bid .pull .ensures) (offer .pull2 .ensures))
 
 returns-2 : tie.Need-returns-2
 returns-2 c =
-    let after = c .before .before .before .before .before .before .before .before .before .before in
-    pull-accepted (after .before .before .before .before .before .before .before .before .before .before .before .pre) _ _ _ (none (after .before .before .before .before .before .before)) (after .before .before .before .before .before .place-of .ensures) (after .before .before .before .before .place-word .ensures) (after .pull .ensures) (c .before .before .before .before .before .before .pull2 .ensures) (c .before .with-counts .ensures) refl
-    (c .accepted .ensures)
+    let sum = c .before .before in
+    let offer = sum .before .before .before .before in
+    let bid = offer .before .before .before .before in
+    let stands = bid .before .before in
+    let named = stands .before .before in
+    pull-accepted (start (named .before .before) .pre) _ _ _ (none (named .before)) (named .place-of .ensures) (stands .before .place-word .ensures) (stands .listed-at .ensures) (bid .pull .ensures) (offer .pull2 .ensures)
+    (c .before .with-orders .ensures) refl (c .accepted .ensures)
 
 pub pull-spec : {M : Type 1} → statement M
 pull-spec =
     tie.close
     (tie.spec
-    refusal-requires
-    refused-requires
+    (λ c κs. let pre = c .before .before .before .pre in (formed pre .contracts-high, formed pre .accounts-high))  -- refusal-requires
+    (λ c κs. search needs)
     returns
-    place-of-requires
-    place-word-requires
-    mul-bought
-    array-read-bought
-    mul-sold
-    array-read-sold
+    (λ c κs. contract-low (start (c .before) .pre) _ _ _ (none c))  -- place-of-requires
+    (λ c κs. account-low (start (c .before .before) .pre) _ _ _ (none (c .before)))  -- place-word-requires
+    (λ c κs. place (c .before))  -- listed-at-requires
     pull-requires
     pull-requires-2
     add-lots
     cast-lots
-    with-counts-requires
-    accepted-requires
-    same-length
-    same-length-2
+    (λ c κs. search needs)
+    (λ c κs. search needs)
+    (λ c. search needs)
+    (λ c. search needs)
     returns-2)

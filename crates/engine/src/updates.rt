@@ -1,0 +1,121 @@
+// What is decided of a command: its answer, and what it changes in the state. The areas are written by then. The update is written where the
+// state stands, by whoever owns the state: one that a function takes and gives back is copied twice.
+ghost use mathlib.Core.Path.{_≡_};
+ghost use Prim.Native.Nat.{_<_};
+ghost use Rattle.rules.specs.Bounds.{maxContracts};
+ghost use Rattle.engine.specs.Decision.{acceptedBy, leftFor, listedIn, refusedBy};
+use rules::Answer;
+use rules::Contract;
+use rules::NewOrder;
+use rules::State;
+
+// A contract as it stands: its place, its terms, the orders on either side; and what all contracts share, the day's trades and the next
+// order number and time stamp.
+pub struct Listed {
+    pub place: usize,
+    pub terms: Contract,
+    pub bought: usize,
+    pub sold: usize,
+    pub recorded: usize,
+    pub next: u32,
+    pub nextstamp: u32,
+}
+
+// What is left to do with all accounts: the kinds that may trade, the match of an auction, a settlement.
+pub enum Pending {
+    Inserting(NewOrder),
+    Changing {
+        account: u32,
+        contract: u32,
+        number: u32,
+        lots: u32,
+        price: u32,
+    },
+    Quoting {
+        account: u32,
+        contract: u32,
+        lots: u32,
+        buy: u32,
+        sell: u32,
+    },
+    Matching(u32),
+    Settling,
+}
+
+// What changes: nothing, one account's balance, one contract; or nothing is done yet, and this is left to do.
+pub enum Update {
+    Nothing,
+    Balance { place: usize, balance: i64 },
+    Listing(Listed),
+    Left(Pending),
+}
+
+pub struct Decision {
+    pub answer: Answer,
+    pub update: Update,
+}
+
+// "a refusal gives three zeros and changes nothing"
+pub fn refused(code: u32) -> Decision
+    ensures { λ r. ⌜ r ≡ refusedBy code ⌝ }
+{
+    Decision {
+        answer: Answer {
+            code,
+            number: 0,
+            traded: 0,
+            lots: 0,
+        },
+        update: Update::Nothing,
+    }
+}
+
+// Nothing is traded: whoever trades is left for all accounts.
+pub fn accepted(update: Update, number: u32, lots: u32) -> Decision
+    ensures { λ r. ⌜ r ≡ acceptedBy update number lots ⌝ }
+{
+    Decision {
+        answer: Answer {
+            code: 0,
+            number,
+            traded: 0,
+            lots,
+        },
+        update,
+    }
+}
+
+// Its answer is given when it is done.
+pub fn left(pending: Pending) -> Decision
+    ensures { λ r. ⌜ r ≡ leftFor pending ⌝ }
+{
+    Decision {
+        answer: Answer {
+            code: 0,
+            number: 0,
+            traded: 0,
+            lots: 0,
+        },
+        update: Update::Left(pending),
+    }
+}
+
+// The contract at a place as it stands.
+pub fn listed_at(state: State, c: usize) -> Listed
+    requires { ⌜ c < maxContracts ⌝ }
+    ensures { λ r. ⌜ r ≡ listedIn state c ⌝ }
+{
+    let contracts = state.contracts;
+    let buycounts = state.buycounts;
+    let sellcounts = state.sellcounts;
+    let terms = contracts[c];
+    Listed {
+        place: c,
+        terms,
+        bought: buycounts[c],
+        sold: sellcounts[c],
+        recorded: state.tradecount,
+        next: state.next,
+        nextstamp: state.nextstamp,
+    }
+}
