@@ -22,7 +22,7 @@ from interface import TOP, Array, Interface, Slice, Unknown
 LIBRARY = TOP / "target" / "library"
 EXAMPLES = TOP / "examples"
 DAY = TOP / "samples" / "paper-example.day"
-WANTED = {"day": TOP / "samples" / "paper-example.out"} | {
+WANTED = {name: TOP / "samples" / "paper-example.out" for name in ("day", "lines")} | {
     name: EXAMPLES / f"{name}.out" for name in ("bundle", "asking", "statement", "tomorrow")
 }
 
@@ -252,13 +252,14 @@ class Examples(unittest.TestCase):
     # A day file of another day, a broken one among them, prints what the runner prints for it.
     @needs("cc")
     def test_days(self):
-        program = self.room / "day"
-        compiled("cc", "-std=c11", "-I", TOP / "include", EXAMPLES / "c" / "day.c", LIBRARY / "libzelvorm.a", "-o", program)
-        for day in sorted((TOP / "samples").glob("*.day")):
-            ran = compiled(program, day)
-            self.assertEqual(ran.stdout, day.with_suffix(".out").read_text(), day.name)
-        for day in sorted((TOP / "samples" / "broken").glob("*.day")):
-            self.assertEqual(compiled(program, day).stdout, "X 20\n", day.name)
+        for name in ("day", "lines"):
+            program = self.room / name
+            compiled("cc", "-std=c11", "-I", TOP / "include", EXAMPLES / "c" / f"{name}.c", LIBRARY / "libzelvorm.a", "-o", program)
+            for day in sorted((TOP / "samples").glob("*.day")):
+                ran = compiled(program, day)
+                self.assertEqual(ran.stdout, day.with_suffix(".out").read_text(), f"{name}: {day.name}")
+            for day in sorted((TOP / "samples" / "broken").glob("*.day")):
+                self.assertEqual(compiled(program, day).stdout, "X 20\n", f"{name}: {day.name}")
 
 
 if __name__ == "__main__":

@@ -4,7 +4,8 @@
     tools/model/compare_library.py target/library/libzelvorm.so --cases 5000 --seed 1
 
 First come the cases that were chosen by hand (`cases_*.py`), with each bound of "well formed" under each call, then random ones
-(`library_cases.py`): states that a day leads to, the same spoiled at a bound, states and areas of any bytes. Each area lies between two forbidden pages, so that a read or a write beyond
+(`library_cases.py`): states that a day leads to, the same spoiled at a bound, states and areas of any bytes, and day files whose lines
+are asked for part by part in buffers of different sizes. Each area lies between two forbidden pages, so that a read or a write beyond
 it ends the process; an area without elements is null now and then. Stops at the first difference, with status 1. It ends with the
 number of cases and the codes reached, call by call.
 """
@@ -22,6 +23,7 @@ from pathlib import Path
 
 import baskets
 import dayfile
+import daylines
 import library
 import library_cases
 import memory
@@ -97,11 +99,14 @@ class Comparison:
         lent = [(area, self.before[area], "words") for area in areas]
         record = library.state_record(self.state)
         result, found = self.linked.call(name, self.rng, *first, record, *lent, *arguments)
+        self.hold_areas(name, found)
+        return result, found
+
+    def hold_areas(self, name, found):
         expected = library.areas_of(self.after, self.filling)
         for area, content in found.items():
             if area in expected:
                 hold_bytes(f"{area} after {name}", expected[area], content)
-        return result, found
 
     def hold_state(self, found):
         hold_fields("the state", library.state_record(self.after), found)
@@ -226,6 +231,39 @@ class Comparison:
         return code
 
 
+    # Every part from a place on, each with what the last one left, until there is no more.
+    def lines(self, file, place, length):
+        commands = daylines.commands_of(file)
+        more, parts = True, 0
+        while more:
+            code, place, more = self.part(file, commands, place, length)
+            parts += 1
+        return code or ("broken" if commands is None else "one part" if parts == 1 else "several parts")
+
+    # One part. How many commands it has is the library's to choose: at least one where there is more.
+    def part(self, file, commands, place, length):
+        self.state = self.after.copy()
+        out = self.rng.randbytes(length)
+        lent = [(area, self.before[area], "words") for area in ("buys", "sells", "trades")]
+        record = library.state_record(self.state)
+        result, found = self.linked.call(
+            "zelvorm_lines", self.rng, ("file", file, "bytes"), record, place, *lent, ("out", out, "bytes")
+        )
+        code = daylines.refusal(self.state, commands, length)
+        following = place if code else result.next
+        written = b"" if code else daylines.part(self.after, commands, place, following)
+        more = code == 0 and commands is not None and following < len(commands)
+        hold("the code", code, result.code)
+        hold_bytes("the file", file, found["file"])
+        hold_bytes("the lines", written + out[len(written) :], found["out"])
+        hold("length, next and more", [len(written), following, more], [result.length, result.next, result.more])
+        hold("a step onward", True, place < following or not (more or written))
+        self.hold_areas("zelvorm_lines", found)
+        self.hold_state(result.state)
+        self.before |= {area: found[area] for area in ("buys", "sells", "trades")}
+        return code, following, more
+
+
 # A queue that a count reaches into places that hold the filling.
 def full_orders(state):
     orders = {}
@@ -288,6 +326,7 @@ def chosen_cases():
     for name in make_vectors.NAMES:
         yield from map(renamed, make_vectors.cases_of(name))
     yield from map(renamed, library_cases.at_each_bound())
+    yield from library_cases.lines_by_hand()
 
 
 def random_cases(seed, count):
@@ -327,6 +366,7 @@ NAMES = {
     "statement": "zelvorm_client_statement",
     "write": "zelvorm_write",
     "read": "zelvorm_read",
+    "lines": "zelvorm_lines",
 }
 
 

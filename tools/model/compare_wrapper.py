@@ -20,10 +20,11 @@ from pathlib import Path
 
 import compare_library
 import dayfile
+import daylines
 import library
 import memory
 import model
-from compare_library import Comparison, hold
+from compare_library import Comparison, hold, hold_bytes
 from library import zelvorm
 
 TOP = Path(__file__).resolve().parents[2]
@@ -119,6 +120,9 @@ class Wrapper:
         made = zelvorm.Mended(int.from_bytes(code, "little"), len(file), len(listed))
         return made, {"file": given["file"], "out": over(file, given["out"]), "list": over(listed, given["list"])}
 
+    def lines(self, given, lines):
+        return lines, {}
+
 
 def is_command(record):
     """Whether a record is one that a command has: not malformed, and no price beside market or best."""
@@ -153,9 +157,9 @@ def part_of(argument):
 class WrapperComparison(Comparison):
     """One case on both sides, the library's through its wrapper."""
 
-    # A wrapper takes no state that is not well formed. `open`, `mend` and `read` take none at all.
+    # A wrapper takes no state that is not well formed. `open`, `mend`, `read` and the lines of a day file take none at all.
     def run(self):
-        if self.case.call in ("open", "day file", "mending", "read"):
+        if self.case.call in ("open", "day file", "mending", "read", "lines"):
             return super().run()
         if self.case.call == "side" and len(self.case.arguments) > 2:
             return "a state of its own"
@@ -177,6 +181,12 @@ class WrapperComparison(Comparison):
 
     def write(self, length):
         return super().write(zelvorm.SAVED_BYTES)
+
+    # All parts in one call, from the file's own opening on.
+    def lines(self, file, place, length):
+        found, _ = self.linked.call("zelvorm_lines", self.rng, ("file", file, "bytes"))
+        hold_bytes("the lines", model.run(file), found)
+        return "broken" if found == daylines.BROKEN else "lines"
 
     # Into an exchange that is new: all zero, with room for everything.
     def read(self, file):

@@ -8,6 +8,7 @@ import random
 
 import cases_well_formed
 import dayfile
+import daylines
 import generate
 import library
 import memory
@@ -65,6 +66,8 @@ FEW = (
     dayfile.settle(),
 )
 
+FILE_OF_FEW = dayfile.write(dayfile.DayFile([dayfile.ContractRecord(10, 1, 100, 10, 1_000, 1_000)], [10_000, 10_000], list(FEW)))
+
 BOUND_CALLS = (
     ("command", (FEW[1],)),
     ("run", (b"".join(dayfile.COMMAND.pack(*given) for given in FEW),)),
@@ -74,7 +77,22 @@ BOUND_CALLS = (
     ("side", ("sell", 2)),
     ("statement", (1, 1, [0] * 8, [], 200)),
     ("write", (2_000,)),
+    ("lines", (FILE_OF_FEW, 0, daylines.ROOM_FOR_A_COMMAND)),
 )
+
+
+# A sound and a broken file in buffers at the bound, from places before and behind the last command; a state that is not well formed.
+def lines_by_hand():
+    rng = random.Random("lines")
+    room = daylines.ROOM_FOR_A_COMMAND
+    for file, name in ((FILE_OF_FEW, "a sound file"), (FILE_OF_FEW[:-1], "a broken file"), (b"", "no bytes")):
+        for place in (0, 1, len(FEW), len(FEW) + 1, BITS_64):
+            for length in (0, room - 1, room, room + 1, library.zelvorm.OUTPUT_BYTES):
+                sound = opening(rng, FILE_OF_FEW)
+                yield Case(f"{name}, place {place}, {length} bytes", "lines", sound, (file, place, length), None)
+                wrong = opening(rng, FILE_OF_FEW)
+                wrong.contract_count = 0
+                yield Case(f"{name}, place {place}, {length} bytes, no contract", "lines", wrong, (file, place, length), None)
 
 
 # =====================================================================================================================
@@ -550,6 +568,26 @@ def read(rng):
     return some_state(rng, some_day(rng)), (file,)
 
 
+def opening(rng, file):
+    """The state that a sound file's run begins with, as it lies."""
+    records = dayfile.sections(file)
+    return laid(rng, generate.Day(rng, records.contracts, records.balances))
+
+
+# Most from their own opening and their first command on, others from any place on a state that has nothing to do with the file. In the
+# shortest buffer each command is a part by itself, so that long files get a longer one.
+def lines(rng):
+    file = generate.pick(rng, generate.FILES)(rng)
+    room = daylines.ROOM_FOR_A_COMMAND
+    commands = daylines.commands_of(file)
+    longer = (room + 2_000, room + 9_000, library.zelvorm.OUTPUT_BYTES, 250_000)
+    length = rng.choice((0, room - 1, room, room, room + 1, room + 100, *longer) if len(file) < 2_000 else longer)
+    if commands is not None and rng.random() < 0.6:
+        return opening(rng, file), (file, 0, length)
+    last = len(commands or ())
+    return some_state(rng, some_day(rng)), (file, rng.choice((0, 0, 1, rng.randint(0, last), last, last + 1, BITS_64)), length)
+
+
 MAKERS = {
     ("well-formed", well_formed): 2,
     ("command", command): 6,
@@ -562,4 +600,5 @@ MAKERS = {
     ("statement", statement): 3,
     ("write", write): 2,
     ("read", read): 2,
+    ("lines", lines): 2,
 }

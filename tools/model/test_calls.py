@@ -1,6 +1,7 @@
 """The calls on a state with its areas, by cases worked out by hand; and the form of the vectors."""
 
 import ast
+import random
 import struct
 import sys
 import unittest
@@ -10,7 +11,10 @@ from pathlib import Path
 sys.path.insert(0, str(Path(__file__).resolve().parents[1]))
 
 import baskets
+import daylines
 import delete_tests
+import generate
+import library_cases
 import make_vectors
 import memory
 import mending
@@ -176,6 +180,33 @@ class Statements(unittest.TestCase):
         account = model.profit(memory.in_use(state), 1, 1, 125)
         self.assertEqual(account, (2 * 30 * 10, (2 * 25 + 2 * 5) * 10))
         self.assertEqual(sum(account), 750 + 400 + 50)
+
+
+class DayLines(unittest.TestCase):
+    # However a day is cut into parts: together they are its output, and the state is the one that its commands lead to one by one.
+    def test_the_parts_are_the_output(self):
+        for seed in range(12):
+            rng = random.Random(f"parts/{seed}")
+            file = rng.choice((generate.trading_file, generate.auction_file, generate.changes_file, generate.quotes_file))(rng)
+            commands = daylines.commands_of(file)
+            state, singly = library_cases.opening(random.Random(seed), file), library_cases.opening(random.Random(seed), file)
+            cuts = sorted({0, *rng.choices(range(len(commands) + 1), k=3), len(commands)})
+            parts = [daylines.part(state, commands, *cut) for cut in zip(cuts, cuts[1:])]
+            self.assertEqual(b"".join(parts), model.run(file))
+            for command in commands:
+                memory.execute(singly, command)
+            self.assertEqual(state, singly)
+
+    def test_a_broken_file_has_one_line(self):
+        self.assertIsNone(daylines.commands_of(b""))
+        self.assertEqual([daylines.part(exchange(), None, place, 1) for place in (0, 1)], [model.run(b""), b""])
+
+    def test_refusals(self):
+        room = daylines.ROOM_FOR_A_COMMAND
+        wrong = exchange()
+        wrong.contract_count = 0
+        told = [daylines.refusal(state, file, length) for state in (exchange(), wrong) for file in ([], None) for length in (room, room - 1)]
+        self.assertEqual(told, [0, 29, 0, 29, 21, 21, 0, 29])
 
 
 class Tables(unittest.TestCase):

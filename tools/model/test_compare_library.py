@@ -19,6 +19,7 @@ import model
 from casebook import exchange
 from compare_library import Comparison, Differs
 from vectors import Case
+from zelvorm import CALLS, OUTPUT_BYTES
 
 TOP = Path(__file__).resolve().parents[2]
 BUILT = TOP / "target" / "library" / "libzelvorm.so"
@@ -26,6 +27,14 @@ BUILT = TOP / "target" / "library" / "libzelvorm.so"
 
 def library_is_current():
     return subprocess.run([TOP / "tools" / "build_library", "current"]).returncode == 0
+
+
+class Calls(unittest.TestCase):
+    # The engine's identity is no proved call, and is held by tools/test_install.py.
+    def test_each_is_compared(self):
+        self.assertEqual(set(compare_library.NAMES.values()), set(CALLS) - {"zelvorm_engine"})
+        made = {compare_library.NAMES[compare_library.renamed(Case("", name, None, (), None)).call] for name, _ in library_cases.MAKERS}
+        self.assertEqual(made, set(compare_library.NAMES.values()))
 
 
 class Areas(unittest.TestCase):
@@ -107,6 +116,17 @@ class Compared(unittest.TestCase):
         reached, difference = compare_library.compare(BUILT, compare_library.random_cases("test", 150), lambda number: None)
         self.assertIsNone(difference)
         self.assertEqual(sum(reached.cases.values()), 150)
+
+    def test_chosen_lines(self):
+        reached, difference = compare_library.compare(BUILT, library_cases.lines_by_hand(), lambda number: None)
+        self.assertIsNone(difference)
+        self.assertLessEqual({21, 29, "broken", "one part", "several parts"}, set(reached.verdicts["zelvorm_lines"]))
+
+    def test_a_wrong_line_is_noticed(self):
+        found = next(case for case in library_cases.lines_by_hand() if case.arguments[2] == OUTPUT_BYTES)
+        with mock.patch.object(model, "answer_lines", lambda *_: ["C 1 0 0 0 0"]):
+            with self.assertRaisesRegex(Differs, "the lines, byte"):
+                self.play(found)
 
     def test_a_wrong_model_is_noticed(self):
         state = exchange()

@@ -34,6 +34,7 @@ from .exchange import (
     SettledAccount,
     Settlement,
     Trade,
+    day_lines,
 )
 from .files import (
     Dropped,
@@ -97,6 +98,7 @@ __all__ = [
     "Trade",
     "Withdraw",
     "command_of",
+    "day_lines",
     "engine",
     "mend",
 ]

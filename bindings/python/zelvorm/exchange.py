@@ -322,6 +322,31 @@ class Exchange:
         return Statement.of(bytes(out)[: told.length], self.state.contractcount)
 
 
+def day_lines(file: bytes) -> bytes:
+    """The lines that a day runner prints for a day file. Of a broken file they are the one line `X 20`.
+
+    >>> from zelvorm import *
+    >>> terms = Terms(multiplier=10, tick=1, reference=100, band=10, limit=1000, rate=1000)
+    >>> opening = Opening([terms], [OpeningAccount(10_000)])
+    >>> file = opening.day_file([PhaseChange(1, Phase.CONTINUOUS), Insert(account=1, contract=1, side=Side.SELL, lots=5, price=102)])
+    >>> print(day_lines(file).decode(), end="")
+    C 1 0 0 0 0
+    C 2 0 1 0 5
+    >>> day_lines(file[1:])
+    b'X 20\\n'
+    """
+    # A state that was just opened, in areas and a buffer that are long enough: no part is refused.
+    lent = raw.lent(file)
+    exchange = Exchange._of(calls.zelvorm_open(*lent).state)
+    part = raw.room(raw.OUTPUT_BYTES)
+    lines, next_command, more = [], 0, True
+    while more:
+        printed = calls.zelvorm_lines(*lent, exchange.state, next_command, *exchange._lent, *raw.lent(part))
+        lines.append(bytes(part)[: printed.length])
+        exchange.state, next_command, more = printed.state, printed.next, printed.more
+    return b"".join(lines)
+
+
 def _answer(code: int, number: int, traded: int, lots: int) -> Union[Answer, Refused]:
     return Answer(number, traded, lots) if code == Code.ACCEPTED else Refused(code)
 

@@ -413,6 +413,30 @@ impl Exchange {
     }
 }
 
+/// The lines that a day runner prints for a day file. Of a broken file they are the one line `X 20`.
+///
+/// ```
+/// # let file = std::fs::read(concat!(env!("CARGO_MANIFEST_DIR"), "/tests/paper-example.day")).unwrap();
+/// use zelvorm::day_lines;
+///
+/// let lines = String::from_utf8(day_lines(&file)).unwrap();
+/// assert_eq!(lines.lines().nth(2), Some("C 3 0 2 3 0"));
+/// assert_eq!(lines.lines().nth(3), Some("T 1 1 102 3 2 1"));
+/// assert_eq!(day_lines(&file[1..]), b"X 20\n");
+/// ```
+pub fn day_lines(file: &[u8]) -> Vec<u8> {
+    // A state that was just opened, in areas and a buffer that are long enough: no part is refused.
+    let Exchange { mut state, mut buys, mut sells, mut trades } = Exchange::with(raw::open(file).state);
+    let mut part = vec![0; raw::OUTPUT_BYTES];
+    let (mut lines, mut next, mut more) = (Vec::new(), 0, true);
+    while more {
+        let printed = raw::lines(file, state, next, &mut buys, &mut sells, &mut trades, &mut part);
+        lines.extend_from_slice(&part[..printed.length]);
+        (state, next, more) = (printed.state, printed.next, printed.more);
+    }
+    lines
+}
+
 impl Holding {
     fn of(held: &raw::Holding) -> Holding {
         Holding { long: held.long, short: held.short, start_long: held.startlong, start_short: held.startshort }

@@ -12,7 +12,8 @@ pub mod raw;
 pub use codes::Refusal;
 pub use commands::{Command, Effect, NewOrder, Phase, Price, Side, Time};
 pub use exchange::{
-    Account, Answer, Contract, Exchange, Gettable, Holding, Order, Response, SettledAccount, Settlement, Trade,
+    day_lines, Account, Answer, Contract, Exchange, Gettable, Holding, Order, Response, SettledAccount, Settlement,
+    Trade,
 };
 pub use files::{
     mend, Day, Dropped, Leg, Mended, Method, Opening, OpeningAccount, Posting, Profit, Reason, Start, Statement, Terms,

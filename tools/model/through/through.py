@@ -31,7 +31,7 @@ def number(value):
 
 
 def respond(call, given):
-    if call in ("zelvorm_open", "zelvorm_mend", "zelvorm_read"):
+    if call in ("zelvorm_open", "zelvorm_mend", "zelvorm_read", "zelvorm_lines"):
         return globals()[call.removeprefix("zelvorm_") + "_file"](*given)
     try:
         exchange = Exchange.from_parts(raw.State.from_buffer_copy(given[0]), *given[1:4])
@@ -131,6 +131,10 @@ def mend_file(file, *_):
         return [number(code), b"", b""]
     rows = [struct.pack("<QB", row.place, row.reason) for row in mended.dropped]
     return [number(0), mended.file, struct.pack("<Q", len(rows)) + b"".join(rows)]
+
+
+def lines_file(file):
+    return [zelvorm.day_lines(file)]
 
 
 def read_file(file, state, *_):

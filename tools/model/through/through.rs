@@ -7,7 +7,7 @@
 use std::io::{self, Read, Write};
 use zelvorm::raw::{self, State};
 use zelvorm::{
-    mend, Answer, Command, Effect, Exchange, Posting, Record, Refusal, Response, Settlement, Side, Start, Statement,
+    day_lines, mend, Answer, Command, Effect, Exchange, Posting, Record, Refusal, Response, Settlement, Side, Start, Statement,
 };
 
 type Parts = Vec<Vec<u8>>;
@@ -47,6 +47,7 @@ fn respond(request: &Parts) -> Parts {
     match &request[0][..] {
         b"zelvorm_open" => open(&given[0]),
         b"zelvorm_mend" => mended(&given[0]),
+        b"zelvorm_lines" => vec![day_lines(&given[0])],
         b"zelvorm_read" => match Exchange::read(&given[0]) {
             Ok(exchange) => vec![number(0), state_bytes(exchange.parts().0)],
             Err(refusal) => vec![number(refusal.code()), state_bytes(&state_of(&given[1]))],
