@@ -35,7 +35,9 @@ THEOREMS = ("Fairness.antt", "Touches.antt")
 HOMES = {"leb": "lib.Dec", "ltb": "lib.Dec", "min": "Prim.Native.Nat", "max": "Prim.Native.Nat", "leZ": "lib.Signed", "ltZ": "lib.Signed"}
 
 # Edits that change no value on any input, by the words of the edit, with the reason.
-NO_DIFFERENCE = ()
+NO_DIFFERENCE = (
+    ("conditionsRefused: dropped, the first: isLimit (o .condition) &&", "good for day without a limit is 6 in every state"),
+)
 
 # Edits that no worked case notices, by the words of the edit, with what does.
 ABOVE = (

@@ -26,7 +26,7 @@ use Rattle.rules.specs.declared.Command.{Command}
 use Rattle.rules.specs.declared.Command.the-variants.{Deposit, Withdraw, Insert, Cancel, Pull, Phase, Settle}
 use Rattle.rules.specs.declared.Order.{Order}
 use Rattle.rules.specs.declared.PriceCondition.{PriceCondition}
-use Rattle.rules.specs.declared.PriceCondition.the-variants.{Limit, Market}
+use Rattle.rules.specs.declared.PriceCondition.the-variants.{Best, Limit, Market}
 use Rattle.rules.specs.declared.Record.{Record}
 use Rattle.rules.specs.declared.TimeCondition.{TimeCondition}
 use Rattle.rules.specs.declared.TimeCondition.the-variants.{GoodForDay, ImmediateOrCancel, FillOrKill}
@@ -121,6 +121,8 @@ codes =
     ∷ (codeOf open′ (buy 1 1 0 5 Market GoodForDay) gives 5)
     ∷ (codeOf open′ (buy 1 1 1 5 Market GoodForDay) gives 6)
     ∷ (codeOf open′ (buy 1 1 1 5 Market ImmediateOrCancel) gives 7)
+    ∷ (codeOf open′ (buy 1 1 1 5 Best ImmediateOrCancel) gives 7)
+    ∷ (codeOf open′ (buy 1 1 1 0 Best ImmediateOrCancel) gives 0)
     -- holding before money; exactly the limit and exactly the balance pass; the larger side is charged, so 995 lots bought
     -- against as many sold need no money
     ∷ (codeOf open′ (sell 1 false 988) gives 0)
@@ -149,6 +151,7 @@ codes =
     ∷ (codeOf (asked continuous 64 0 100 0) (buy 1 1 1 100 (Limit 100) GoodForDay) gives 13)
     ∷ (codeOf (asked continuous 64 0 100 0) (buy 1 1 12 112 (Limit 112) GoodForDay) gives 0)
     ∷ (codeOf (asked continuous 64 0 100 0) (buy 1 1 13 112 (Limit 112) GoodForDay) gives 13)
+    ∷ (codeOf (asked continuous 64 0 100 0) (buy 1 1 13 112 (Limit 112) ImmediateOrCancel) gives 0)
     -- in auction a limit order for the day rests, crossing or not; every other insert gives 6, after 5
     ∷ (codeOf (asked auction 0 0 100 0) (buy 1 1 12 112 (Limit 112) GoodForDay) gives 0)
     ∷ (codeOf (asked auction 0 0 100 0) (buy 1 1 12 112 (Limit 112) ImmediateOrCancel) gives 6)
