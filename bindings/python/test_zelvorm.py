@@ -100,7 +100,7 @@ class Package(unittest.TestCase):
 
     # What is no `bytes` is copied, and the copy must live as long as the call.
     def test_commands_in_any_bytes(self):
-        records = zelvorm.commands.record_of(zelvorm.Deposit(account=1, amount=1)) * 1000
+        records = zelvorm.files.record_of(zelvorm.Deposit(account=1, amount=1)) * 1000
         for form in (bytes, bytearray, memoryview):
             answers = bytearray(16 * 1000)
             self.assertEqual(self.exchange.run_bytes(form(records), answers), 1000)
