@@ -120,9 +120,11 @@ total-spec = tie.close (tie.spec Inv-loop loop-holds)
 # What rt dev says of a hole.
 GOAL = """{root}/crates/tiny/proofs/total/Proof.antt:7:1: `cast-sum` is not admitted: has-holes
 {root}/crates/tiny/proofs/total/Proof.antt:8:16: goal ? in `cast-sum`
-    c : Rattle.tiny.proofs.total.Lts.After-read Rattle.tiny.proofs.total.Reads.Pre
+    c : Rattle.tiny.proofs.total.Lts.After-read Rattle.tiny.proofs.total.Reads.Pre Rattle.tiny.proofs.total.Reads.Post
   ⊢ mir.Val.Fits mir.Syntax.w64 (lib.ListN.getD (c .before .args .a .now) (c .before .loop .i) 0)
     (computed from: mir.Val.Fits (..))
+{root}/crates/tiny/proofs/total/Proof.antt:67:5: error: `total-spec`: `cast-sum` was not admitted (it has holes), so this cannot be checked
+  under the hypothesis `h`
 fn tiny::total: not proved
 crate tiny: modules loaded=3 checked=2
 logic=not-proved
@@ -337,11 +339,12 @@ class Goals(ProofTest):
             output.splitlines()[1:5],
             [
                 "crates/tiny/proofs/total/Proof.antt:8:16: goal ? in `cast-sum`",
-                "    c : lts.After-read total-reads.Pre",
-                "  ⊢ mir.Val.Fits mir.Syntax.w64 (getD (c .before .args .a .now) (c .before .loop .i) 0)",
+                "    c : lts.After-read",
+                "  ⊢ Fits w64 (getD (c .before .args .a .now) (c .before .loop .i) 0)",
                 "fn tiny::total: not proved",
             ],
         )
+        self.assertEqual(output.splitlines()[-1], "functions proved: 0; errors that only follow from these: 1")
         self.assertEqual(self.calls(), ["dev tiny --allow-holes"])
 
     def test_names_of_other_crates_keep_their_file(self):
