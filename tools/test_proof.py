@@ -166,6 +166,18 @@ LTS = """module Rattle.tiny.proofs.total.Lts
           Fits
       Need-add-sum : Type 0
       Need-add-sum = (c : After-known) → Fits
+      module _ (before· : After-known) where
+        abbrev pub After-bump·own : Type 0
+        After-bump·own = Called.Called ps·2 r·2 (claims· .5) T36 (
+          record { pos = 10; st = List.[]; d = 0; at = λ x. x },
+          tt)
+      pub record After-bump : Type 0 where
+        pub before : After-known
+        pub bump : After-bump·own before
+      abbrev pub Need-returns : Type 0
+      Need-returns =
+          (c : After-bump) →
+          Fits
 """
 
 WAY = """Need-loop-holds: c is Start
@@ -179,6 +191,14 @@ Need-cast-sum, Need-add-sum: c is After-known
     c .before .before .before .args {a}    Start
     c .before .before .before .good        Start
     c .before .before .before .pre         Start
+Need-returns: c is After-bump
+    c .bump {ensures, result, last, kept, ok}      After-bump
+    c .before .shared-slice-known {given}          After-known
+    c .before .before .loop-test {taken}           In-loop
+    c .before .before .before .loop {sum, i, inv}  At-loop
+    c .before .before .before .before .args {a}    Start
+    c .before .before .before .before .good        Start
+    c .before .before .before .before .pre         Start
 """
 
 PROOF = """-- `tiny::pick` meets its contract. Assumes nothing.
@@ -286,8 +306,8 @@ class ProofTest(unittest.TestCase):
         path = self.kit / "calls"
         return path.read_text().splitlines() if path.exists() else []
 
-    def start(self, *arguments):
-        path = f"{self.kit / 'bin'}{os.pathsep}{os.environ['PATH']}"
+    def start(self, *arguments, path=os.environ["PATH"]):
+        path = f"{self.kit / 'bin'}{os.pathsep}{path}"
         return subprocess.Popen(
             [sys.executable, TOOL, *arguments],
             cwd=self.root / "crates",
@@ -297,9 +317,9 @@ class ProofTest(unittest.TestCase):
             encoding="utf-8",
         )
 
-    def proof(self, *arguments, status=0):
+    def proof(self, *arguments, status=0, **others):
         """What it writes, and what it says beside."""
-        started = self.start(*arguments)
+        started = self.start(*arguments, **others)
         output, errors = started.communicate(timeout=60)
         self.assertEqual(started.returncode, status, output + errors)
         return output, errors
@@ -390,8 +410,7 @@ class Goals(ProofTest):
     def test_no_such_crate_and_no_kit(self):
         self.assertIn("there is no crate other", self.proof("goals", "other", status=2)[1])
         (self.kit / "bin" / "rt").unlink()
-        if not shutil.which("rt"):
-            self.assertIn("rt is not here", self.proof("goals", "tiny", status=2)[1])
+        self.assertIn("rt is not here", self.proof("goals", "tiny", status=2, path="")[1])
 
 
 class Scaffold(ProofTest):
@@ -432,6 +451,7 @@ class Places(ProofTest):
         self.make("total")
         self.make("queue/total")
         self.make("queue/insert")
+        self.make("total/⟦a·len⟧-asked")
 
     def test_the_way_to_each_need(self):
         output, errors = self.proof("places", "tiny", "queue::total")
@@ -448,13 +468,15 @@ class Places(ProofTest):
 
     def test_the_functions_of_a_crate(self):
         output, _ = self.proof("places", "tiny")
-        self.assertEqual(output.splitlines()[-1], "total: needs 3, places on the longest way 4")
+        self.assertEqual(output.splitlines()[-1], "total: needs 4, places on the longest way 5")
         self.assertEqual(len(output.splitlines()), 3)
 
     def test_one_need_and_one_fact(self):
+        output, _ = self.proof("places", "tiny", "total", "returns", "--fact", "ensures")
+        self.assertEqual(output, "Need-returns: c is After-bump\n    c .bump {ensures, result, last, kept, ok}  After-bump\n")
         output, _ = self.proof("places", "tiny", "total", "cast-sum", "--fact", "inv")
         self.assertEqual(output, "Need-cast-sum: c is After-known\n    c .before .before .loop {sum, i, inv}  At-loop\n")
-        self.assertIn("there are loop-holds, cast-sum, add-sum", self.proof("places", "tiny", "total", "no", status=2)[1])
+        self.assertIn("there are loop-holds, cast-sum, add-sum, returns", self.proof("places", "tiny", "total", "no", status=2)[1])
 
     def test_a_way_that_is_long(self):
         text, last = LTS, "After-known"

@@ -49,8 +49,9 @@ def dev(root, crate, *words):
         yield process
     finally:
         if process.poll() is None:
-            # Its own session, so that the prover below it ends too.
-            os.killpg(process.pid, signal.SIGTERM)
+            # It has a session of its own, so that the prover below it ends too.
+            with contextlib.suppress(ProcessLookupError):
+                os.killpg(process.pid, signal.SIGTERM)
         process.stdout.close()
         process.wait()
 

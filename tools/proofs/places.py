@@ -16,6 +16,10 @@ RECORD = re.compile(r"(\s*)pub record (\S+)")
 FIELD = re.compile(r"(\s*)pub (\S+) :\s*(.*)")
 NEED = re.compile(r"(\s*)(?:pub )?Need-([^\s:=]+)(?: [^:=]*)? =\s*(.*)")
 AT = re.compile(r"\(c : ([^\s)]+)")
+CALL = re.compile(r"\s*(\S+·own) = Called\.Called ")
+
+# What a call gives, in the order of use.
+OF_A_CALL = ("ensures", "result", "last", "kept", "ok")
 
 # How many `.before` in a row are written out: more than these nobody counts, and a path should not have them.
 MOST_WRITTEN = 4
@@ -62,10 +66,10 @@ def indented(line):
 def whole(lines, i, indent, first):
     """What begins in line i, with the lines below that are further in."""
     parts = [first]
-    for line in lines[i + 1 :]:
-        if line.strip() and indented(line) <= indent:
+    for j in range(i + 1, len(lines)):
+        if lines[j].strip() and indented(lines[j]) <= indent:
             break
-        parts.append(line.strip())
+        parts.append(lines[j].strip())
     return " ".join(part for part in parts if part)
 
 
@@ -82,6 +86,9 @@ def read(text):
             at = AT.search(whole(lines, i, len(match.group(1)), match.group(3)))
             needs.append((match.group(2), at.group(1) if at else ""))
             current = None
+        elif match := CALL.match(line):
+            records[match.group(1)] = [(name, "") for name in OF_A_CALL]
+            current = None
         elif line.strip() and indented(line) <= deep:
             current = None
     return Function(records, needs)
@@ -93,6 +100,8 @@ def functions(made, crate):
     found = {}
     for path in sorted(top.rglob("Lts*.antt")):
         names = list(path.relative_to(top).parts[:-1])
+        if "⟦" in names[-1]:  # code that stands in a contract
+            continue
         if path.stem != "Lts":  # a member of a cycle of calls, whose folder is named after all of them
             names[-1] = path.stem.removeprefix("Lts-")
         found["::".join(names)] = path

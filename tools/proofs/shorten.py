@@ -140,8 +140,8 @@ class Crate:
         """Has these proofs stand in the files."""
         for path, text in texts.items():
             if text != self.now[path]:
-                (self.root / path).write_text(text, encoding="utf-8")
                 self.now[path] = text
+                (self.root / path).write_text(text, encoding="utf-8")
 
     def check(self):
         """Whether the crate is proved, and the names that are refused by file."""
