@@ -14,7 +14,7 @@ import time
 import unittest
 from pathlib import Path
 
-from proofs import goals, lengths, shorten
+from proofs import goals, lengths, scaffold, shorten
 
 TOOL = Path(__file__).resolve().parent / "proof"
 
@@ -433,6 +433,11 @@ class Scaffold(ProofTest):
         self.assertIn("use Rattle.tiny.proofs.total.Lts as lts\n", text)
         self.assertIn("use Rattle.check.proofs.expect.Reads as expect-reads\n", text)
         self.assertNotIn(" as reads", text)
+
+    def test_a_cycle_of_calls(self):
+        self.assertEqual(scaffold.header("crates/tiny/proofs/a/+odd/Proof.antt"), "-- `tiny::a::odd` meets its contract. Assumes nothing.")
+        both = "-- `tiny::even` and `tiny::odd` meet their contracts. Assumes nothing."
+        self.assertEqual(scaffold.header("crates/tiny/proofs/+even+odd/Proof.antt"), both)
 
     def test_no_file_is_written_elsewhere(self):
         for path in ("crates/below/proofs/total", "crates/tiny/proofs/../../below", "elsewhere"):

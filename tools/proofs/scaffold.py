@@ -43,15 +43,16 @@ def tidy(lines):
     return [line for line in lines if is_cited(line)]
 
 
-def function_of(path):
-    """crate::module::function of a proof file; a cycle of calls has its members' names, joined by +."""
-    crate, _, *names, _ = Path(path).parts[1:]
-    return "::".join([crate, *names])
+def header(path):
+    """The first line of a proof file: whose it is. A cycle of calls has a folder +ONE+OTHER."""
+    crate, _, *modules, folder, _ = Path(path).parts[1:]
+    names = [f"`{'::'.join([crate, *modules, name])}`" for name in folder.split("+") if name]
+    return f"-- {' and '.join(names)} {'meet their contracts' if len(names) > 1 else 'meets its contract'}. Assumes nothing."
 
 
 def text_of(offer):
     body = "\n".join(tidy(offer.lines)).strip("\n")
-    return f"-- `{function_of(offer.path)}` meets its contract. Assumes nothing.\n{body}\n"
+    return f"{header(offer.path)}\n{body}\n"
 
 
 def run(root, arguments, write):
