@@ -8,7 +8,8 @@ answer in words with every working, the book as a ladder, trades, holdings and b
 prices and of balances by day. The key A shows each answer one step after its command, as an exercise's always is. The
 page fetches nothing, and prints as a hand-out. Its words are those of explain.py.
 
-Where the day runner and the model differ no page is made, and the status is 1; it is 2 where there is nothing to show.
+Where the day runner and the model differ no page is made, and the status is 1; it is 2 where there is
+nothing to show, 3 where not all could be written, 20 for a broken file.
 """
 
 import argparse

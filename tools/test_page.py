@@ -104,7 +104,7 @@ class Tool(unittest.TestCase):
         self.assertEqual((ended.returncode, ended.stdout), (1, b""))
         self.assertIn(b"page: no page is made: the runner and the model differ at command 2\n", ended.stderr)
         ended = self.run_tool(SAMPLES / "broken" / "tick-0.day")
-        self.assertEqual((ended.returncode, ended.stdout), (2, b""))
+        self.assertEqual((ended.returncode, ended.stdout), (20, b""))
         self.assertIn(b"tick-0.day: the file is broken", ended.stderr)
         ended = self.run_tool("no such file")
         self.assertEqual((ended.returncode, ended.stderr), (2, b"page: no such file: No such file or directory\n"))
@@ -114,7 +114,7 @@ class Tool(unittest.TestCase):
         words = [sys.executable, TOOL, SAMPLES / "paper-example.day", "--runner", MODEL_AS_RUNNER]
         with open("/dev/full", "wb") as full:
             ended = subprocess.run(words, stdout=full, stderr=subprocess.PIPE)
-        self.assertEqual(ended.returncode, 2)
+        self.assertEqual(ended.returncode, 3)
         self.assertEqual(ended.stderr, b"page: standard output: No space left on device\n")
 
 

@@ -126,7 +126,7 @@ class Tool(unittest.TestCase):
         self.assertEqual((ended.returncode, ended.stdout), (1, b""))
         self.assertIn(b"worksheet: no worksheet is made: the runner and the model differ at command 2\n", ended.stderr)
         ended = self.run_tool(SAMPLES / "broken" / "tick-0.day")
-        self.assertEqual((ended.returncode, ended.stdout), (2, b""))
+        self.assertEqual((ended.returncode, ended.stdout), (20, b""))
         self.assertIn(b"tick-0.day: the file is broken", ended.stderr)
 
     def test_a_long_lesson(self):

@@ -10,7 +10,7 @@ says above a command is on both sheets, what stands beside a command and the lin
 answers alone, where each answer has its working. The page is one file that fetches nothing and needs no script.
 
 The answers are the day runner's, the workings the model's. Where the two differ no worksheet is made, and the status is
-1; it is 2 where there is nothing to show.
+1; it is 2 where there is nothing to show, 3 where not all could be written, 20 for a broken file.
 """
 
 import argparse

@@ -98,6 +98,15 @@ class Package(unittest.TestCase):
         self.assertEqual((caught.exception.code, caught.exception.words), (zelvorm.Code.NO_ACCOUNT, "no such account"))
         self.assertEqual(bytes(self.exchange.state), before)
 
+    # What is no `bytes` is copied, and the copy must live as long as the call.
+    def test_commands_in_any_bytes(self):
+        records = zelvorm.files.record_of(zelvorm.Deposit(account=1, amount=1)) * 1000
+        for form in (bytes, bytearray, memoryview):
+            answers = bytearray(16 * 1000)
+            self.assertEqual(self.exchange.run_bytes(form(records), answers), 1000)
+            self.assertEqual(answers, bytearray(16 * 1000), form)
+        self.assertEqual(self.exchange.state.accounts[0].balance, 10_000 + 3 * 1000)
+
     def test_every_code_has_words(self):
         self.assertEqual([code.value for code in zelvorm.Code], list(zelvorm.raw.CODE_WORDS))
         self.assertTrue(all(code.words for code in zelvorm.Code))

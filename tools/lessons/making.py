@@ -5,6 +5,10 @@ import sys
 from lessons.lesson import Differs, Unusable, check_broken, printed_for, read
 
 
+class Broken(Unusable):
+    """The day file is broken, so that nothing of it can be shown."""
+
+
 def playable(path, runner):
     """A lesson that can be played, and the lines that the runner prints for it."""
     lesson = read(path)
@@ -12,16 +16,18 @@ def playable(path, runner):
     if lesson.day is None:
         check_broken(lesson, printed)
         faults = "; ".join(lesson.faults)
-        raise Unusable(f"{lesson.name}: the file is broken, and nothing of it is carried out: {faults}")
+        raise Broken(f"{lesson.name}: the file is broken, and nothing of it is carried out: {faults}")
     return lesson, printed
 
 
 def write_made(tool, made):
-    """Writes what `made` makes to standard output, or says why there is nothing: 1 where the engine and the model differ, 2
-    where there is nothing to show."""
+    """Writes what `made` makes to standard output, or says why there is nothing, with the status of the table of statuses: 1
+    where the engine and the model differ, 2 where there is nothing to show, 3 where not all could be written, 20 for a broken file."""
     try:
         sys.stdout.buffer.write(made().encode())
         sys.stdout.flush()
+    except Broken as broken:
+        finish(tool, 20, broken)
     except Unusable as unusable:
         finish(tool, 2, unusable)
     except Differs as differs:
@@ -29,7 +35,7 @@ def write_made(tool, made):
     except OSError as error:
         # The interpreter would try once more at its end, and complain.
         sys.stdout = None
-        finish(tool, 2, f"standard output: {error.strerror}")
+        finish(tool, 3, f"standard output: {error.strerror}")
 
 
 def finish(tool, status, message):

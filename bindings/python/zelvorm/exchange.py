@@ -357,7 +357,10 @@ def _answers(words: bytearray) -> list[Union[Answer, Refused]]:
 
 # What is only read is lent as it lies.
 def _bytes(content: bytes) -> tuple:
-    content = bytes(content)
+    """The pointer and the length of bytes that are only read. A pointer into `bytes` holds nothing: the caller keeps them. A copy of
+    anything else is held by the pointer itself."""
+    if not isinstance(content, bytes):
+        return raw.lent(bytearray(content))
     return ctypes.cast(content, ctypes.POINTER(ctypes.c_uint8)), len(content)
 
 
