@@ -1,7 +1,10 @@
 """The page of a lesson: what stands in it, and the paper's day stepped through in a real browser."""
 
 import json
+import os
 import re
+import resource
+import signal
 import subprocess
 import sys
 import tempfile
@@ -116,6 +119,21 @@ class Tool(unittest.TestCase):
             ended = subprocess.run(words, stdout=full, stderr=subprocess.PIPE)
         self.assertEqual(ended.returncode, 3)
         self.assertEqual(ended.stderr, b"page: standard output: No space left on device\n")
+
+    def test_all_bytes_or_a_word(self):
+        """Without a buffer a write may take a part of a page; a reader that has had enough ends it with 141."""
+        words = [sys.executable, "-u", TOOL, SAMPLES / "paper-example.day", "--runner", MODEL_AS_RUNNER]
+        whole = page_of_sample("paper-example").encode()
+        with tempfile.TemporaryFile() as made:
+            limit = lambda: (signal.signal(signal.SIGXFSZ, signal.SIG_IGN), resource.setrlimit(resource.RLIMIT_FSIZE, (4096, 4096)))
+            ended = subprocess.run(words, stdout=made, stderr=subprocess.PIPE, preexec_fn=limit)
+        self.assertEqual((ended.returncode, ended.stderr), (3, b"page: standard output: File too large\n"))
+        reading, writing = os.pipe()
+        os.close(reading)
+        ended = subprocess.run(words, stdout=writing, stderr=subprocess.PIPE)
+        os.close(writing)
+        self.assertEqual((ended.returncode, ended.stderr), (141, b""))
+        self.assertEqual(subprocess.run(words, stdout=subprocess.PIPE).stdout, whole)
 
 
 # What is on the page, read as it is shown.

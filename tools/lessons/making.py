@@ -22,10 +22,10 @@ def playable(path, runner):
 
 def write_made(tool, made):
     """Writes what `made` makes to standard output, or says why there is nothing, with the status of the table of statuses: 1
-    where the engine and the model differ, 2 where there is nothing to show, 3 where not all could be written, 20 for a broken file."""
+    where the engine and the model differ, 2 where there is nothing to show, 3 where not all could be written, 20 for a
+    broken file, 141 where the reader has had enough."""
     try:
-        sys.stdout.buffer.write(made().encode())
-        sys.stdout.flush()
+        write_all(made().encode())
     except Broken as broken:
         finish(tool, 20, broken)
     except Unusable as unusable:
@@ -35,7 +35,17 @@ def write_made(tool, made):
     except OSError as error:
         # The interpreter would try once more at its end, and complain.
         sys.stdout = None
+        if isinstance(error, BrokenPipeError):
+            sys.exit(141)
         finish(tool, 3, f"standard output: {error.strerror}")
+
+
+def write_all(content):
+    """Writes bytes to standard output, all of them: where it has no buffer a write may take a part."""
+    rest = memoryview(content)
+    while rest:
+        rest = rest[sys.stdout.buffer.write(rest) :]
+    sys.stdout.flush()
 
 
 def finish(tool, status, message):
