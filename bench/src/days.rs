@@ -214,13 +214,13 @@ fn opening(r: &mut Random) -> impl DoubleEndedIterator<Item = Command> {
     (1..=CONTRACTS).map(move |c| phase(c, if c == auction { AUCTION as u8 } else { 1 }))
 }
 
-/// A settlement or a state change at any time, or a command with any value in one of its fields.
+/// A settlement at any time, a change to pre-open, continuous or no trading, or a command with any value in one of its fields.
 fn odd(r: &mut Random, command: Command) -> Command {
     let bits = 3 + r.below(28);
     let any = r.below(1 << bits);
     match r.below(10) {
         0 => settle(),
-        1 => phase(1 + r.below(CONTRACTS as u32) as usize, r.below(6) as u8),
+        1 => phase(1 + r.below(CONTRACTS as u32) as usize, r.below(3) as u8),
         2 => Command { kind: any as u8, ..command },
         3 => Command { account: any as u8, ..command },
         4 => Command { contract: any as u8, ..command },
@@ -232,27 +232,39 @@ fn odd(r: &mut Random, command: Command) -> Command {
     }
 }
 
-/// About which command two settlements are due, again and again, and one in how many commands is odd.
+/// An insert at a price so far from the other side, so that it rests; any other command as it is.
+fn moved_away(command: Command, by: u32) -> Command {
+    match command {
+        Command { kind: 3, price, flags, .. } if price > by => {
+            Command { price: if flags & SELL == 0 { price - by } else { price + by }, ..command }
+        }
+        _ => command,
+    }
+}
+
+/// About which command two settlements are due, again and again, how far inserts are moved away from the other side, and one in how many
+/// commands is odd.
 struct Mix {
     settled: usize,
+    away: u32,
     odd: Option<u32>,
 }
 
 /// A mixed list: orders, cancels, changes, quotes, money, state changes, and two settlements about each 500th command, 13 commands apart, as
 /// far as the list goes. One contract in four opens by an auction. The commands are chosen by the state that they meet.
 pub fn mixed(r: &mut Random, day: &[u8], count: usize) -> Vec<Command> {
-    mixed_by(r, day, count, &Mix { settled: 500, odd: None })
+    mixed_by(r, day, count, &Mix { settled: 500, away: 0, odd: None })
 }
 
 /// A day file and a list by a seed: up to 32 accounts, rich or poor, contracts with wide or narrow terms, short days or long ones, which may
-/// fill the trades, and one command in twenty odd.
+/// fill the trades, inserts that meet the other side or that fill their own, and one command in twenty odd.
 pub fn list_of_seed(seed: u64) -> (Vec<u8>, Vec<Command>) {
     let r = &mut Random::of_seed(seed);
     let terms = [0; CONTRACTS].map(|_| [WIDE, NARROW][r.below(2) as usize]);
     let balance = [RICH, POOR][r.below(2) as usize];
     let day = file_with(terms, 1 + r.below(32) as usize, balance);
-    let mix = Mix { settled: [100, 500, 3_000][r.below(3) as usize], odd: Some(20) };
-    let count = 1 + r.below(4_000) as usize;
+    let mix = Mix { settled: [100, 500, 10_000][r.below(3) as usize], away: [0, 0, 20][r.below(3) as usize], odd: Some(20) };
+    let count = 1 + r.below(8_000) as usize;
     let list = mixed_by(r, &day, count, &mix);
     (day, list)
 }
@@ -267,10 +279,11 @@ fn mixed_by(r: &mut Random, day: &[u8], count: usize, mix: &Mix) -> Vec<Command>
         if due.is_empty() && list.len() % mix.settled > mix.settled - 20 {
             due = opening(r).rev().chain([settle()]).chain(all(3).rev()).chain(all(1).rev()).collect();
         }
-        let mut command = due.pop().unwrap_or_else(|| any_command(r, &state, &memory));
-        if mix.odd.is_some_and(|one_in| r.below(one_in) == 0) {
-            command = odd(r, command);
-        }
+        let command = due.pop().unwrap_or_else(|| {
+            let command = moved_away(any_command(r, &state, &memory), mix.away);
+            let is_odd = mix.odd.is_some_and(|one_in| r.below(one_in) == 0);
+            if is_odd { odd(r, command) } else { command }
+        });
         state.step(&mut memory.areas(), &command.bytes());
         list.push(command);
     }
