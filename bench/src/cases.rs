@@ -49,6 +49,14 @@ impl Random {
         Random(88172645463325252)
     }
 
+    /// Another sequence for each seed. Neighbours are spread by splitmix64; xorshift never leaves zero, so the last bit is set.
+    pub fn of_seed(seed: u64) -> Random {
+        let z = seed.wrapping_add(0x9e37_79b9_7f4a_7c15);
+        let z = (z ^ (z >> 30)).wrapping_mul(0xbf58_476d_1ce4_e5b9);
+        let z = (z ^ (z >> 27)).wrapping_mul(0x94d0_49bb_1331_11eb);
+        Random((z ^ (z >> 31)) | 1)
+    }
+
     pub fn below(&mut self, n: u32) -> u32 {
         self.0 ^= self.0 << 13;
         self.0 ^= self.0 >> 7;

@@ -33,15 +33,32 @@ pub const RICH: u64 = 1_000_000_000_000;
 /// Enough for some orders: others are refused for margin.
 pub const POOR: u64 = 60_000;
 
+/// A contract's tick, band and limit.
+#[derive(Clone, Copy)]
+struct Terms {
+    tick: u16,
+    band: u32,
+    limit: u32,
+}
+
+/// By these no order of a list is refused, unless it is odd.
+const WIDE: Terms = Terms { tick: 1, band: 500, limit: 100_000 };
+/// By these many are: for their price, or for the holding limit.
+const NARROW: Terms = Terms { tick: 2, band: 10, limit: 40 };
+
 /// Four contracts, the pairing methods among them in turn, and accounts with an opening balance, those with odd numbers makers.
 pub fn file(accounts: usize, balance: u64) -> Vec<u8> {
+    file_with([WIDE; CONTRACTS], accounts, balance)
+}
+
+fn file_with(terms: [Terms; CONTRACTS], accounts: usize, balance: u64) -> Vec<u8> {
     let mut bytes = vec![CONTRACTS as u8, 0, 0, 0];
-    for c in 0..CONTRACTS as u16 {
+    for (c, Terms { tick, band, limit }) in (0u16..).zip(terms) {
         bytes.extend((10 + c).to_le_bytes());
-        bytes.extend(1u16.to_le_bytes());
+        bytes.extend(tick.to_le_bytes());
         bytes.extend(REFERENCE.to_le_bytes());
-        bytes.extend(500u32.to_le_bytes());
-        bytes.extend(100_000u32.to_le_bytes());
+        bytes.extend(band.to_le_bytes());
+        bytes.extend(limit.to_le_bytes());
         bytes.extend(1_000u16.to_le_bytes());
         bytes.extend((c % 3).to_le_bytes());
     }
@@ -197,19 +214,76 @@ fn opening(r: &mut Random) -> impl DoubleEndedIterator<Item = Command> {
     (1..=CONTRACTS).map(move |c| phase(c, if c == auction { AUCTION as u8 } else { 1 }))
 }
 
+/// A settlement at any time, a change to pre-open, continuous or no trading, or a command with any value in one of its fields.
+fn odd(r: &mut Random, command: Command) -> Command {
+    let bits = 3 + r.below(28);
+    let any = r.below(1 << bits);
+    match r.below(10) {
+        0 => settle(),
+        1 => phase(1 + r.below(CONTRACTS as u32) as usize, r.below(3) as u8),
+        2 => Command { kind: any as u8, ..command },
+        3 => Command { account: any as u8, ..command },
+        4 => Command { contract: any as u8, ..command },
+        5 => Command { flags: any as u8, ..command },
+        6 => Command { lots: any, ..command },
+        7 => Command { price: any, ..command },
+        8 => Command { number: any, ..command },
+        _ => Command { amount: (any as u64) << r.below(33), ..command },
+    }
+}
+
+/// An insert at a price so far from the other side, so that it rests; any other command as it is.
+fn moved_away(command: Command, by: u32) -> Command {
+    match command {
+        Command { kind: 3, price, flags, .. } if price > by => {
+            Command { price: if flags & SELL == 0 { price - by } else { price + by }, ..command }
+        }
+        _ => command,
+    }
+}
+
+/// About which command two settlements are due, again and again, how far inserts are moved away from the other side, and one in how many
+/// commands is odd.
+struct Mix {
+    settled: usize,
+    away: u32,
+    odd: Option<u32>,
+}
+
 /// A mixed list: orders, cancels, changes, quotes, money, state changes, and two settlements about each 500th command, 13 commands apart, as
 /// far as the list goes. One contract in four opens by an auction. The commands are chosen by the state that they meet.
 pub fn mixed(r: &mut Random, day: &[u8], count: usize) -> Vec<Command> {
+    mixed_by(r, day, count, &Mix { settled: 500, away: 0, odd: None })
+}
+
+/// A day file and a list by a seed: up to 32 accounts, rich or poor, contracts with wide or narrow terms, short days or long ones, which may
+/// fill the trades, inserts that meet the other side or that fill their own, and one command in twenty odd.
+pub fn list_of_seed(seed: u64) -> (Vec<u8>, Vec<Command>) {
+    let r = &mut Random::of_seed(seed);
+    let terms = [0; CONTRACTS].map(|_| [WIDE, NARROW][r.below(2) as usize]);
+    let balance = [RICH, POOR][r.below(2) as usize];
+    let day = file_with(terms, 1 + r.below(32) as usize, balance);
+    let mix = Mix { settled: [100, 500, 10_000][r.below(3) as usize], away: [0, 0, 20][r.below(3) as usize], odd: Some(20) };
+    let count = 1 + r.below(8_000) as usize;
+    let list = mixed_by(r, &day, count, &mix);
+    (day, list)
+}
+
+fn mixed_by(r: &mut Random, day: &[u8], count: usize, mix: &Mix) -> Vec<Command> {
     let mut state = State::open(day);
     let mut memory = Memory::new();
     let mut list: Vec<Command> = Vec::new();
     let all = |p| (1..=CONTRACTS).map(move |c| phase(c, p));
     let mut due: Vec<Command> = opening(r).collect();
     while list.len() < count {
-        if due.is_empty() && list.len() % 500 > 480 {
+        if due.is_empty() && list.len() % mix.settled > mix.settled - 20 {
             due = opening(r).rev().chain([settle()]).chain(all(3).rev()).chain(all(1).rev()).collect();
         }
-        let command = due.pop().unwrap_or_else(|| any_command(r, &state, &memory));
+        let command = due.pop().unwrap_or_else(|| {
+            let command = moved_away(any_command(r, &state, &memory), mix.away);
+            let is_odd = mix.odd.is_some_and(|one_in| r.below(one_in) == 0);
+            if is_odd { odd(r, command) } else { command }
+        });
         state.step(&mut memory.areas(), &command.bytes());
         list.push(command);
     }

@@ -1,96 +1,24 @@
-//! The exchange: the versions held to each other on the same lists, and the rows of what a command takes.
+//! The exchange: the rows of what a command takes.
 
 use crate::best::Best;
-use crate::cases::{Random, ACCOUNTS, ORDER, TRADE};
+use crate::cases::{Random, ORDER, TRADE};
 use crate::count::{counted, counted_from, counts, grouped, head, row};
-use crate::days::{deposit, encode, file, filled_list, kind_lists, match_lists, mixed, Command, Memory, Prepared, CONTRACTS, KINDS, POOR, RICH};
-use crate::design::{Design, Plain, Resting};
+use crate::days::{deposit, encode, file, filled_list, kind_lists, match_lists, mixed, Command, Memory, Prepared, KINDS, RICH};
+use crate::design::Plain;
 use crate::exchange::{self, State};
-use crate::ours::{self, Probe};
+use crate::ours;
 use std::hint::black_box;
-use std::process::exit;
 
 #[no_mangle]
 #[inline(never)]
-fn plain_run(day: &[u8], commands: &[u8], m: &mut Memory) -> State<Plain> {
+pub fn plain_run(day: &[u8], commands: &[u8], m: &mut Memory) -> State<Plain> {
     exchange::run(day, commands, &mut m.areas())
 }
 
 #[no_mangle]
 #[inline(never)]
-fn best_run(day: &[u8], commands: &[u8], m: &mut Memory) -> State<Best> {
+pub fn best_run(day: &[u8], commands: &[u8], m: &mut Memory) -> State<Best> {
     exchange::run(day, commands, &mut m.areas())
-}
-
-/// The same of a Rust version's state.
-fn probe<D>(s: &State<D>, account: usize, contract: usize) -> Probe {
-    let h = s.accounts[account].holdings[contract];
-    let terms = s.contracts[contract];
-    Probe {
-        balance: s.accounts[account].balance,
-        bought: s.resting[0][contract],
-        sold: s.resting[1][contract],
-        made: s.made,
-        long: h.long,
-        short: h.short,
-        startlong: h.startlong,
-        startshort: h.startshort,
-        reference: terms.reference,
-        phase: terms.phase,
-        last: terms.last,
-        next: s.next,
-        settlements: s.settlements,
-    }
-}
-
-/// An account's resting lots in a contract, by side and open or close.
-fn resting<D: Design>(s: &State<D>, m: &mut Memory, account: usize, contract: usize) -> [u64; 4] {
-    [0, 1, 2, 3].map(|i| D::resting_lots(s, &m.areas(), Resting { side: i / 2, contract, account, close: i % 2 == 1 }))
-}
-
-/// Runs the same list on each exchange: all areas, balances, holdings, contracts and counts have to be equal, and the sums that the best
-/// version keeps have to be those of the queues.
-fn compare_run(day: &[u8], list: &[Command]) {
-    let commands = encode(list);
-    let (mut memory, mut best_memory) = (Memory::new(), Memory::new());
-    let plain = plain_run(day, &commands, &mut memory);
-    let best = best_run(day, &commands, &mut best_memory);
-    let mut equal = best_memory == memory;
-    for i in 0..ACCOUNTS * CONTRACTS {
-        let (account, contract) = (i / CONTRACTS, i % CONTRACTS);
-        let mut same = Memory::new();
-        let ours = ours::run(day, &commands, &mut same, account, contract);
-        let expected = probe(&plain, account, contract);
-        equal = equal && ours == expected && same == memory && probe(&best, account, contract) == expected;
-        equal = equal && resting(&plain, &mut memory, account, contract) == resting(&best, &mut best_memory, account, contract);
-    }
-    if !equal {
-        eprintln!("bench: the exchanges differ after a list of {} commands", list.len());
-        exit(1)
-    }
-}
-
-/// Whether every command of a list is accepted.
-fn accepted(day: &[u8], list: &[Command]) -> bool {
-    let (mut state, mut memory) = (State::<Plain>::open(day), Memory::new());
-    list.iter().all(|command| state.step(&mut memory.areas(), &command.bytes()).code == 0)
-}
-
-/// Random lists, and those counted; of these all but the mixed one are accepted whole.
-pub fn compare() {
-    let lists = 50;
-    let mut r = Random::new();
-    for i in 0..lists {
-        let day = file(1 + r.below(32) as usize, [RICH, POOR][i % 2]);
-        compare_run(&day, &mixed(&mut r, &day, 20 * i));
-    }
-    for number in 0..pair_count() {
-        let (accounts, [_, with]) = pair(number);
-        let day = file(accounts, RICH);
-        assert!(number == MIXED || accepted(&day, &with));
-        compare_run(&day, &with);
-    }
-    println!("exchange: same results of {lists} random lists of commands and of those counted");
 }
 
 fn mixed_list() -> Vec<Command> {
@@ -106,7 +34,7 @@ const CONFIGURATIONS: [Prepared; 5] = [
     Prepared { accounts: 2, orders: 32, trades: 1_000 },
 ];
 
-const MIXED: usize = 0;
+pub const MIXED: usize = 0;
 const MATCH: usize = 1;
 const DEPOSIT_AT_OPENING: usize = 2;
 const DEPOSIT_IN_FULL: usize = 3;
@@ -115,12 +43,12 @@ fn kind_pair(kind: usize, configuration: usize) -> usize {
     4 + CONFIGURATIONS.len() * kind + configuration
 }
 
-fn pair_count() -> usize {
+pub fn pair_count() -> usize {
     kind_pair(KINDS.len(), 0)
 }
 
 /// The lists that are counted, by number: how many accounts they are for, a list without what is counted, and with it.
-fn pair(number: usize) -> (usize, [Vec<Command>; 2]) {
+pub fn pair(number: usize) -> (usize, [Vec<Command>; 2]) {
     let with_deposit = |list: Vec<Command>| [list.clone(), [list, vec![deposit(1)]].concat()];
     match number {
         MIXED => (32, [Vec::new(), mixed_list()]),
@@ -135,11 +63,13 @@ fn pair(number: usize) -> (usize, [Vec<Command>; 2]) {
     }
 }
 
-/// The exchanges that are counted: ours, ours in a library that has `execute` too, the plain Rust version and the best one.
+/// The exchanges that are counted: ours, ours in a program that has `execute` too, the plain Rust version, the best one, and the library as it
+/// is exported.
 const OURS_ALONE: usize = 0;
 const OURS_WITH_EXECUTE: usize = 1;
 const PLAIN_RUST: usize = 2;
 const BEST_RUST: usize = 3;
+const LIBRARY: usize = 4;
 
 pub fn exercise_list(number: usize, with: usize, which: usize) {
     let (accounts, lists) = pair(number);
@@ -148,14 +78,15 @@ pub fn exercise_list(number: usize, with: usize, which: usize) {
         OURS_ALONE => drop(black_box(ours::run(&day, &commands, &mut memory, 0, 0))),
         OURS_WITH_EXECUTE => assert!(ours::test(&day, &commands, &mut memory)),
         PLAIN_RUST => drop(black_box(plain_run(&day, &commands, &mut memory))),
-        _ => drop(black_box(best_run(&day, &commands, &mut memory))),
+        BEST_RUST => drop(black_box(best_run(&day, &commands, &mut memory))),
+        _ => drop(black_box(ours::library_run(&day, &commands, &mut memory))),
     }
 }
 
 /// The instructions of a whole list.
 fn per_list(number: usize, with: usize, which: usize) -> f64 {
     let words = ["list".to_string(), number.to_string(), with.to_string(), which.to_string()];
-    let function = ["bench_run", "bench_test", "plain_run", "best_run"][which];
+    let function = ["bench_run", "bench_test", "plain_run", "best_run", "zelvorm_run"][which];
     let total = counted(function, &words).1;
     // behind the list `bench_test` tests the state
     let behind = if which == OURS_WITH_EXECUTE { counted_from(function, WHOLE_STATE_TEST, &words) } else { 0.0 };
@@ -171,15 +102,20 @@ fn per_command(number: usize, which: usize) -> f64 {
 
 pub const VERSIONS: [&str; 5] = ["ours", "plain Rust", "ratio", "best Rust", "ratio"];
 
-/// Ours beside the two Rust versions.
+/// One of ours beside the two Rust versions.
+fn beside_rust(name: &str, number: usize, which: usize) {
+    let [ours, plain, best] = [which, PLAIN_RUST, BEST_RUST].map(|which| per_command(number, which));
+    row(name, ours, &[plain, best]);
+}
+
+/// Ours beside the two Rust versions: the library first, since it is what programs link, then `run` alone.
 fn versions() {
-    let all = |name: &str, number: usize| {
-        let [ours, plain, best] = [OURS_ALONE, PLAIN_RUST, BEST_RUST].map(|which| per_command(number, which));
-        row(name, ours, &[plain, best]);
-    };
+    let all = |name: &str, number: usize| beside_rust(name, number, OURS_ALONE);
     let settlements = plain_run(&file(32, RICH), &encode(&mixed_list()), &mut Memory::new()).settlements;
     head("Instructions per command", &VERSIONS);
-    all(&format!("2,000 commands, {settlements} settlements"), MIXED);
+    let list = format!("2,000 commands, {settlements} settlements");
+    beside_rust(&format!("{list}: exported library"), MIXED, LIBRARY);
+    all(&format!("{list}: `run` alone"), MIXED);
     for (kind, name) in KINDS.iter().enumerate() {
         all(name, kind_pair(kind, 0));
     }

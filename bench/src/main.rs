@@ -1,6 +1,7 @@
 //! Instructions per operation of the order book, per command of the exchange and of the day runner, beside Rust versions of each.
 //! `bench/run` builds and starts it.
 
+mod agreement;
 mod auction;
 mod best;
 mod cases;
@@ -12,6 +13,8 @@ mod exchanges;
 mod ours;
 mod plain;
 mod runner;
+#[path = "../../include/zelvorm.rs"]
+mod zelvorm;
 
 use best::Best;
 use cases::{any_sweeps, queue_case, whole_sweeps, Random, Sweeps, SweepsCase, Swept};
@@ -209,13 +212,15 @@ fn main() {
         (Some("execute"), &[number]) => exchanges::exercise_execute(number),
         (Some("plain_day"), &[day]) => plain_day(&sample(day, "day")),
         (Some("best_day"), &[day]) => best_day(&sample(day, "day")),
+        (Some("compare"), &[seconds]) => agreement::compare_for(seconds as u64),
+        (Some("seed"), &[seed]) => agreement::compare_seed(seed as u64),
         (Some("compare"), _) => {
             compare();
-            exchanges::compare();
+            agreement::compare();
         }
         _ => {
             compare();
-            exchanges::compare();
+            agreement::compare();
             book();
             exchanges::rows();
             runners();

@@ -1,8 +1,10 @@
-//! The calls of `crates/bench_book`, `crates/bench_exchange` and `crates/bench_execute`, each behind a test of what its contract requires.
+//! The calls of `crates/bench_book`, `crates/bench_exchange` and `crates/bench_execute`, each behind a test of what its contract requires, and
+//! the library as it is exported, whose calls require nothing.
 
 use crate::cases::{Sweeps, Swept, ACCOUNTS, ORDER, QUEUE, TRADE};
 use crate::days::Memory;
 use crate::plain::Order;
+use crate::zelvorm;
 
 // A slice passes as a pointer and a length.
 extern "C" {
@@ -120,4 +122,17 @@ pub fn execute(day: &[u8], commands: &[u8], single: [u8; 24], m: &mut Memory, ac
             m.sells.as_mut_ptr(), m.sells.len(), m.trades.as_mut_ptr(), m.trades.len(), account, contract,
         )
     }
+}
+
+/// The list by the library as it is exported: the state that it leaves, and the answer to each command.
+pub fn library_run(day: &[u8], commands: &[u8], m: &mut Memory) -> (zelvorm::State, Vec<zelvorm::Answer>) {
+    let opened = zelvorm::open(day);
+    assert!(opened.code == zelvorm::CODE_ACCEPTED);
+    // no answer has these words, so that one which is not written shows
+    let unwritten = zelvorm::Answer { code: u32::MAX, number: u32::MAX, traded: u32::MAX, lots: u32::MAX };
+    let mut answers = vec![unwritten; commands.len() / zelvorm::COMMAND_WIDTH];
+    let words = zelvorm::answer_words(&mut answers);
+    let ran = zelvorm::run(opened.state, &mut m.buys, &mut m.sells, &mut m.trades, commands, words);
+    assert!(ran.played == answers.len());
+    (ran.state, answers)
 }
