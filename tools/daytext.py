@@ -593,7 +593,7 @@ def check_file(name):
         return False
     if name != "-":
         note_encoding(name, textfiles.read(name))
-    say(f"{name}: right: {', '.join(counts(lesson))}")
+    say(f"{name}: no error in the text: {', '.join(counts(lesson))}")
     for fault in dayfile.faults(dayfile.write(lesson.day)):
         say(f"{name}: broken for the day runner: {fault}")
     return True

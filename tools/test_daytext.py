@@ -768,8 +768,8 @@ class Tool(unittest.TestCase):
         self.assert_ended(
             ended,
             1,
-            f"{right}: right: 1 contract, 1 account, 1 command, 1 expectation\n"
-            f"{broken_one}: right: 1 contract, 1 account, 0 commands, 0 expectations\n"
+            f"{right}: no error in the text: 1 contract, 1 account, 1 command, 1 expectation\n"
+            f"{broken_one}: no error in the text: 1 contract, 1 account, 0 commands, 0 expectations\n"
             f"{broken_one}: broken for the day runner: contract 1: rate not 1 to 10,000\n",
             f"{wrong}: line 3, column 8: 'now' is one word too many\n{wrong}: line 4, column 1: end without repeat\n",
         )

@@ -157,13 +157,13 @@ class Files(unittest.TestCase):
         status, output, errors = call("page", SECOND)
         self.assertEqual((status, errors), (0, ""))
         self.assertIn("5 long", output)
-        self.assertEqual(call("check", SECOND), (0, f"{SECOND}: right: begins from the state after 1 settlement, 7 commands\n{SECOND}: 21 expectations met\n", ""))
+        self.assertEqual(call("check", SECOND), (0, f"{SECOND}: no error in the text: begins from the state after 1 settlement, 7 commands\n{SECOND}: 21 expectations met\n", ""))
 
     @needs_runner
     def test_check(self):
         status, output, _ = call("check", PAPER, PAPER.with_suffix(".day"), STATE)
         self.assertEqual(status, 0)
-        self.assertIn(f"{PAPER}: right: 1 contract, 2 accounts, 8 commands, 25 expectations\n{PAPER}: 25 expectations met\n", output)
+        self.assertIn(f"{PAPER}: no error in the text: 1 contract, 2 accounts, 8 commands, 25 expectations\n{PAPER}: 25 expectations met\n", output)
         self.assertIn("a sound day file: 1 contract, 2 accounts, 8 commands", output)
         self.assertIn("right: a saved state, after 1 settlement", output)
         for content, status in (

@@ -35,7 +35,7 @@ def check_one(path, write):
 
 def check_lesson(file, write):
     lesson = daytext.read_lesson(file.text())
-    write(f"{file.name}: right: {', '.join(daytext.counts(lesson))}")
+    write(f"{file.name}: no error in the text: {', '.join(daytext.counts(lesson))}")
     for fault in dayfile.faults(dayfile.write(lesson.day)):
         write(f"{file.name}: broken for the day runner: {fault}")
     if not runner_is_current():
@@ -61,7 +61,7 @@ def check_continued(file, write):
     found = statetext.read_continued(file.text())
     lesson = daytext.Lesson(dayfile.DayFile([], [], found.commands), found.expected, [])
     commands = lines.number_of(len(found.commands), "command")
-    write(f"{file.name}: right: begins from the state after {lines.number_of(found.state.settlements, 'settlement')}, {commands}")
+    write(f"{file.name}: no error in the text: begins from the state after {lines.number_of(found.state.settlements, 'settlement')}, {commands}")
     why = statetext.refusal(found.state)
     if why:
         raise Ended(BROKEN, f"{file.name}: no lesson can begin from it: {why}")
