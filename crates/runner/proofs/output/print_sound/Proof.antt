@@ -45,11 +45,11 @@ same-length-4 : tie.Need-same-length-4
 same-length-4 c = search needs
 
 -- from the state taken out of the answer back to the call of play
-abbrev Kept : tie.After-struct-known → tie.After-slice-known6
-Kept c = c .before .before .before .before .before .before
+abbrev Kept : tie.After-struct-known → tie.After-slice-known7
+Kept c = c .before .before .before .before
 
 abbrev Played : tie.After-struct-known → tie.After-play
-Played c = Kept c .before .before .before .before
+Played c = let sells = Kept c .before .before .before in sells .before .before .before
 
 returns-2 : tie.Need-returns-2
 returns-2 c =
