@@ -3,5 +3,5 @@ pub mod AddUp
 pub mod Posted
 pub mod PostedTrades
 pub mod Postings
-pub mod Rows
 pub mod StartLots
+pub mod Totals

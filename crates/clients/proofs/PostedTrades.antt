@@ -21,7 +21,7 @@ use Rattle.clients.specs.Parts.{before, clientTrades, PostingIs}
 use Rattle.clients.specs.Clients.{isPosted, clientPlace, clientTrade, tradePosted, isClient, legsIn, legCount, total, maxClients, others}
 use Rattle.clients.specs.declared.posting.Posting.{Posting}
 use Rattle.clients.proofs.Posted.{posted-place}
-use Rattle.clients.proofs.Rows.{total-more, total-ext}
+use Rattle.clients.proofs.Totals.{total-more, total-ext}
 
 -- ---- one trade
 

@@ -9,8 +9,9 @@ use lib.Dec.{eqb, leb}
 use lib.ListN.{length, getD, length-append}
 use Rattle.laws.specs.Choice.{pick}
 use Rattle.rules.specs.declared.Trade.{Trade}
-use Rattle.clients.specs.Clients.{inRow, postedTo, posted, isPosted, clientPlace, clientTrade, isClient, legsIn, others}
-use Rattle.clients.proofs.Rows.{row-more}
+use Rattle.sections.specs.Sections.{inRow}
+use Rattle.clients.specs.Clients.{postedTo, posted, isPosted, clientPlace, clientTrade, isClient, legsIn, others}
+use Rattle.sections.proofs.Rows.{row-more}
 
 module _ (postings : List ℕ) (number : ℕ) where
   -- of the first i postings so many are the order's, and where it is one, it is the client's

@@ -15,7 +15,7 @@ use Rattle.rules.specs.Exchange.{noHolding}
 use Rattle.rules.specs.declared.Holding.{Holding}
 use Rattle.clients.specs.Parts.{clientsWith}
 use Rattle.clients.specs.Clients.{clientAccount, startHolding, startLong, startShort, total}
-use Rattle.clients.proofs.Rows.{total-none, total-more, total-ext}
+use Rattle.clients.proofs.Totals.{total-none, total-more, total-ext}
 
 -- ---- words added up: each is below 2^32
 

@@ -1,6 +1,6 @@
 -- The orders of one account posted to its clients, and the day as the clients see it (document 02, ticket 9). Assumes nothing.
 use mathlib.Core.Bool.{Bool, not, _&&_, _||_}
-use mathlib.Core.List.{List, [], _∷_, _++_, map}
+use mathlib.Core.List.{List, [], _∷_, map}
 use Prim.Native.Nat.{ℕ, zero, suc, _+_, _*_, _/_}
 use lib.Dec.{eqb, ltb}
 use lib.IntN.{pos}
@@ -14,12 +14,9 @@ use Rattle.rules.specs.Memory.{used}
 use Rattle.rules.specs.declared.Account.{Account}
 use Rattle.rules.specs.declared.Holding.{Holding}
 use Rattle.rules.specs.declared.Trade.{Trade}
+use Rattle.sections.specs.Sections.{inRow}
 
--- ---- one after the other: f 0, f 1, .., up to n of them, in a row or added up
-
-unfoldable pub inRow : ℕ → (ℕ → List ℕ) → List ℕ
-inRow zero f = []
-inRow (suc n) f = inRow n f ++ f n
+-- ---- f 0, f 1, .., up to n of them, added up
 
 unfoldable pub total : ℕ → (ℕ → ℕ) → ℕ
 total zero f = 0

@@ -16,7 +16,7 @@ use Rattle.rules.specs.DayFile.{u32At, contractFrom, contractsIn, countWidth}
 use Rattle.rules.specs.WellFormed.{wellFormedContents}
 use Rattle.rules.specs.declared.Holding.{Holding}
 use Rattle.endian.specs.Numbers.{four}
-use Rattle.statements.specs.Statement.{holdingBytes, section, holdingWidth}
+use Rattle.sections.specs.Sections.{holdingBytes, section, holdingWidth}
 use Rattle.saved.specs.Saved.{accountPlace, accountsIn, allEqual, asleep, contractPlace, countsRight, loadedFrom, markSound, rowPlace, savedBytes, savedContract, savedSound, settlementsPlace, shaped, writable, savedAccountWidth, savedContractWidth, settlementsWidth}
 use Rattle.saved.proofs.Fields.{Entry, entry, entryBytes, entryOf, holding, listing, listingBytes, listingFrom}
 use Rattle.saved.proofs.Lists.{accounts-are, accountsOf, entries-again, entriesOf, listings-are, listingsOf, rows-again, rowsOf, savedRow}

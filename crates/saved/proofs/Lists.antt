@@ -19,7 +19,7 @@ use Rattle.endian.specs.Numbers.{signedOf}
 use Rattle.saved.specs.Saved.{accountPlace, accountsIn, contractPlace, loadedAccount, loadedFrom, loadedListing, markSound, rowPlace, savedAccount, savedHolding, balanceWidth, savedAccountWidth, savedContractWidth}
 use Rattle.saved.proofs.Fields.{Entry, contract-at, entry-at, entryOf, holding-at, holdingFrom, listingFrom, savedEntry}
 use Rattle.saved.proofs.Rows.{records-table}
-use Rattle.statements.specs.Statement.{holdingWidth}
+use Rattle.sections.specs.Sections.{holdingWidth}
 
 -- ---- an account of its entry and its row
 

@@ -19,7 +19,7 @@ use Rattle.saved.proofs.Loaded.{Loadable, loaded-declared, loaded-forme
 use Rattle.endian.proofs.Numbers.{Bytes}
 use Rattle.saved.proofs.Reading.{length-saved, read-back, sound-back}
 use Rattle.saved.proofs.Savable.{Savable}
-use Rattle.statements.specs.Statement.{holdingWidth}
+use Rattle.sections.specs.Sections.{holdingWidth}
 
 -- a state that can be saved: its file is sound, so long, and gives the state again
 module _ (x : Exchange) (s : Savable x) where

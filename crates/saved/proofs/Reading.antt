@@ -17,7 +17,7 @@ use Rattle.rules.specs.declared.Trade.{Trade}
 use Rattle.invariants.proofs.Clauses.{well-formed}
 use Rattle.endian.specs.Numbers.{two, four}
 use Rattle.endian.proofs.Writes.{length-four}
-use Rattle.statements.specs.Statement.{holdingBytes, section, holdingWidth}
+use Rattle.sections.specs.Sections.{holdingBytes, section, holdingWidth}
 use Rattle.saved.specs.Saved.{accountBytes, accountPlace, accountsIn, contractPlace, countsRight, loadedFrom, markSound, rowBytes, rowPlace, savedBytes, savedSound, settlementsPlace, shaped, savedAccountWidth, settlementsWidth}
 use Rattle.saved.proofs.Fields.{entry, entryBytes, entryOf, holding, listing, listingBytes}
 use Rattle.saved.proofs.Lists.{accounts-again, accounts-are, accountsOf, entriesOf, listings-are, listingsOf, marked, marks-are, rowsOf}

@@ -22,7 +22,7 @@ use Rattle.rules.specs.declared.Contract.{Contract}
 use Rattle.rules.specs.declared.Holding.{Holding}
 use Rattle.rules.specs.declared.State.{State}
 use Rattle.endian.specs.Numbers.{two, four, eight, unsigned, signedOf}
-use Rattle.statements.specs.Statement.{holdingBytes, section, holdingWidth}
+use Rattle.sections.specs.Sections.{holdingBytes, section, holdingWidth}
 
 -- ---- what is written: "Sections in a fixed order, each after its count"
 

@@ -10,7 +10,7 @@ use lib.Seq.{getD-take, length-take-le}
 use Rattle.laws.specs.Choice.{all, all-ext, allOf, allOf-all}
 use Rattle.laws.specs.Sums.{sumOf, sumOf-ext}
 use Rattle.areas.specs.Records.{encode}
-use Rattle.rules.specs.Exchange.{accountAt, listingAt, noAccount, noContract, noHolding, noListing}
+use Rattle.rules.specs.Exchange.{accountAt, holdingAt, listingAt, noAccount, noContract, noHolding, noListing}
 use Rattle.rules.specs.Memory.{Declared, Memory, exchangeOf, inUse, listingIn, used, wellFormedMemory}
 use Rattle.rules.specs.declared.Account.{Account}
 use Rattle.rules.specs.declared.Holding.{Holding}
@@ -19,10 +19,8 @@ use Rattle.rules.proofs.InUse.{account-in-use, accounts-in-use, contracts-in-us
 use Rattle.rules.proofs.Terms.{contract-terms}
 use Rattle.invariants.proofs.Clauses.{well-formed}
 use Rattle.invariants.proofs.MemoryRoom.{CountsOk, memory-ok}
-use Rattle.clients.specs.Clients.{inRow}
-use Rattle.clients.proofs.Rows.{row-ext}
-use Rattle.statements.specs.Parts.{accountsBytes}
-use Rattle.statements.specs.Statement.{holdingBytes}
+use Rattle.sections.specs.Sections.{holdingBytes, holdingsBytes, inRow}
+use Rattle.sections.proofs.Rows.{row-ext}
 use Rattle.saved.specs.Saved.{accountBytes, allEqual, asleep, contractBytes, rowBytes, savedBytes, totalsEqual, writable}
 use Rattle.saving.specs.Parts.{Short, accountRow, asleepAt, contractRow, stateBytes, stateWritable}
 
@@ -108,7 +106,8 @@ module _ (m : Memory) (d : Declared (m .state)) (w : wellFormedMemory m ≡ true
       ∙ holdings-row (getD (m .state .accounts) i noAccount .holdings)
       (omega (arith, counts .contracts-high, counts .accounts-high, d .holdings i (omega (arith, counts .accounts-high))))
 
-  rows-row : encode rowBytes (exchangeOf m .accounts) ≡ accountsBytes (m .state .accounts) a c
+  rows-row : encode rowBytes (exchangeOf m .accounts) ≡ holdingsBytes (m .state .accounts) a c
+  unfolding holdingsBytes holdingAt accountAt
   rows-row =
       encode-row rowBytes (exchangeOf m .accounts) noAccount
       ∙ ap (λ (n : ℕ). inRow n (λ i. rowBytes (getD (exchangeOf m .accounts) i noAccount))) account-count

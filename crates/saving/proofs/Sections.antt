@@ -14,8 +14,8 @@ use Rattle.rules.specs.declared.State.{State}
 use Rattle.endian.specs.Written.{Written}
 use Rattle.endian.proofs.Writes.{then, length-four}
 use Rattle.endian.specs.Numbers.{two, four, eight, unsigned}
-use Rattle.statements.specs.Statement.{section}
-use Rattle.statements.proofs.Sections.{exact}
+use Rattle.sections.specs.Sections.{section}
+use Rattle.sections.proofs.Rows.{exact}
 use Rattle.saved.specs.Saved.{accountBytes, contractBytes, balanceWidth, markWidth, priceWidth, savedAccountWidth, savedContractWidth, settlementsWidth}
 use Rattle.saving.specs.Parts.{accountSection, contractSection, holdingSection, stateBytes}
 

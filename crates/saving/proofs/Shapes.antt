@@ -12,7 +12,7 @@ use Rattle.laws.specs.Choice.{false-both}
 use Rattle.rules.specs.Bounds.{maxAccounts, maxContracts}
 use Rattle.rules.specs.DayFile.{contractsIn, u8At, u32At, countWidth}
 use Rattle.rules.proofs.Terms.{within-high, within-low, within-test}
-use Rattle.statements.specs.Statement.{holdingWidth}
+use Rattle.sections.specs.Sections.{holdingWidth}
 use Rattle.saved.specs.Saved.{accountPlace, accountsIn, countsRight, markSound, rowPlace, settlementsPlace, shaped, balanceWidth, savedAccountWidth, savedContractWidth, settlementsWidth}
 use Rattle.dayfile.specs.FileHead.{countBefore}
 use Rattle.dayfile.proofs.Counts.{counted, uncounted}

@@ -14,9 +14,7 @@ use Rattle.rules.specs.declared.Account.{Account}
 use Rattle.rules.specs.declared.Contract.{Contract}
 use Rattle.rules.specs.declared.State.{State}
 use Rattle.endian.specs.Numbers.{four}
-use Rattle.clients.specs.Clients.{inRow}
-use Rattle.statements.specs.Parts.{accountsBytes}
-use Rattle.statements.specs.Statement.{section}
+use Rattle.sections.specs.Sections.{holdingsBytes, inRow, section}
 use Rattle.saved.specs.Saved.{accountBytes, accountsIn, contractBytes, settlementsPlace, totalsEqual, settlementsWidth}
 
 -- ---- the file of a state, section by section
@@ -34,7 +32,7 @@ abbrev pub accountSection : List Account → ℕ → List ℕ
 accountSection list n = section n (accountRow list n)
 
 abbrev pub holdingSection : List Account → ℕ → ℕ → List ℕ
-holdingSection list n contracts = section (n * contracts) (accountsBytes list n contracts)
+holdingSection list n contracts = section (n * contracts) (holdingsBytes list n contracts)
 
 abbrev pub stateBytes : State → List ℕ
 stateBytes s =

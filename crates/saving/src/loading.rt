@@ -7,7 +7,7 @@ ghost use Rattle.laws.specs.Written.{written};
 ghost use Rattle.rules.specs.Bounds.{maxContracts};
 ghost use Rattle.rules.specs.Exchange.{noAccount};
 ghost use Rattle.rules.specs.Memory.{putAccount};
-ghost use Rattle.statements.specs.Statement.{holdingWidth};
+ghost use Rattle.sections.specs.Sections.{holdingWidth};
 ghost use Rattle.saved.specs.Saved.{contractPlace, savedContract, savedHolding, savedAccount, loadedAccount, loadedFrom, loadedState, savedContractWidth, savedAccountWidth};
 ghost use Rattle.saving.specs.Parts.{Laid};
 use crate::shape::BALANCE_WIDTH;
@@ -25,8 +25,8 @@ use rules::Account;
 use rules::Contract;
 use rules::Holding;
 use rules::State;
+use sections::HOLDING_WIDTH;
 use settlement::reopen::no_orders;
-use statements::writing::HOLDING_WIDTH;
 
 // the day file's contract, with its own last price
 fn contract_from(file: &[u8], at: usize) -> Contract

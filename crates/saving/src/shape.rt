@@ -12,7 +12,7 @@ use dayfile::head::TWO_COUNTS;
 use dayfile::head::count_before;
 use endian::reading::u8_at;
 use endian::reading::u32_at;
-use statements::writing::HOLDING_WIDTH;
+use sections::HOLDING_WIDTH;
 
 // How many bytes a last price, a balance, a maker's mark and the lots of one side of a holding take.
 const PRICE_WIDTH: usize = 4;

@@ -9,7 +9,7 @@ ghost use Rattle.rules.specs.DayFile.{countWidth};
 ghost use Rattle.endian.specs.Numbers.{four};
 ghost use Rattle.endian.specs.Written.{Written};
 ghost use Rattle.rules.specs.Exchange.{noAccount, noContract};
-ghost use Rattle.statements.specs.Statement.{section};
+ghost use Rattle.sections.specs.Sections.{section};
 ghost use Rattle.saved.specs.Saved.{contractBytes, accountBytes, savedContractWidth, savedAccountWidth, settlementsWidth};
 ghost use Rattle.saving.specs.Parts.{Short, Fitting, contractRow, accountRow, contractSection, accountSection, holdingSection, stateBytes};
 use endian::writing::put_byte;
@@ -20,7 +20,7 @@ use endian::writing::unsigned;
 use rules::Account;
 use rules::Contract;
 use rules::State;
-use statements::writing::put_holdings;
+use sections::put_holdings;
 
 // "the day file's 20 bytes, then last price 4"
 fn put_contract(out: &mut [u8], at: usize, c: Contract) -> usize

@@ -32,7 +32,7 @@ use Rattle.clients.specs.Clients.{Clients, clientAccount, clientExchange, clien
 use Rattle.statements.specs.declared.Statement.{Statement}
 use Rattle.statements.proofs.Answering.{code-here, code-later, refused-is, same-code}
 use Rattle.clients.proofs.Posted.{client-holding, posted-place, same-price}
-use Rattle.clients.proofs.Rows.{total-at}
+use Rattle.clients.proofs.Totals.{total-at}
 
 -- ---- a trade with clients in the account's place
 

@@ -15,7 +15,7 @@ use Rattle.areas.specs.Lists.{over, padded}
 use Rattle.areas.proofs.Lists.{getD-padded}
 use Rattle.rules.specs.Bounds.{maxAccounts, maxContracts, maxLimit}
 use Rattle.rules.specs.DayFile.{countWidth}
-use Rattle.rules.specs.Exchange.{Exchange, Listing, accountAt, holdingAt, listingAt, noAccount, noHolding, noTrade}
+use Rattle.rules.specs.Exchange.{Exchange, Listing, accountAt, holdingAt, listingAt, noAccount, noTrade}
 use Rattle.rules.specs.Holdings.{bookTrades, neverBelowZero, startOfDay}
 use Rattle.rules.specs.Memory.{Declared, exchangeOf, listingIn, recordedTrades, used, memory}
 use Rattle.rules.specs.Settlement.{Day, closingProfit, dayOf, dayStart, afterLegs, legs, holdingGain, holdingProfit, settlementPrice}
@@ -31,17 +31,20 @@ use Rattle.accounting.proofs.Replay.{replay-covered}
 use Rattle.settlement.specs.Settling.{AllPayable, BooksIs, accountIn, closingTo, contractIn, dayIn, holdingIn, holdingTo, pricesDue}
 use Rattle.settlement.specs.declared.balances.Books.{Books}
 use Rattle.endian.proofs.Writes.{length-four}
+use Rattle.sections.specs.Sections.{holdingBytes, holdingWidth, holdingsBytes, inRow}
+use Rattle.sections.proofs.Held.{length-holding}
+use Rattle.sections.proofs.Rows.{length-row, row-ext}
 use Rattle.clients.specs.Parts.{clientsWith}
 use Rattle.replaying.specs.Parts.{Replayable, ReplayIs}
 use Rattle.replaying.proofs.Started.{start-at, used-day}
-use Rattle.statements.specs.Parts.{Brokered, Profitable, Tellable, ToldIs, accountsBytes, bookBytes, clientState, clientsDay, refusedWith, told}
-use Rattle.clients.specs.Clients.{clientAccount, holdingsNow, inRow, legCount, legsIn, neverClosesMore, clientPlaces}
-use Rattle.statements.specs.Statement.{holdingBytes, holdingsBytes, profitBytes, profitsBytes, statementOf, tradeBytes, tradesBytes, legWidth, holdingWidth, profitWidth}
+use Rattle.statements.specs.Parts.{Brokered, Profitable, Tellable, ToldIs, bookBytes, clientState, clientsDay, refusedWith, told}
+use Rattle.clients.specs.Clients.{clientAccount, holdingsNow, legCount, legsIn, neverClosesMore, clientPlaces}
+use Rattle.statements.specs.Statement.{profitBytes, profitsBytes, statementOf, tradeBytes, tradesBytes, legWidth, profitWidth}
 use Rattle.replaying.specs.declared.Held.{Held}
-use Rattle.clients.proofs.Rows.{length-row, length-row-total, row-ext, total-bound}
+use Rattle.clients.proofs.Totals.{length-row-total, total-bound}
 use Rattle.statements.specs.declared.Statement.{Statement}
 use Rattle.statements.proofs.Answering.{told-0, told-27, told-29}
-use Rattle.statements.proofs.Sections.{few-entries, length-holding, length-profit, length-trade, two-legs}
+use Rattle.statements.proofs.Sections.{few-entries, length-profit, length-trade, two-legs}
 
 -- ---- the clients as accounts
 
@@ -250,11 +253,10 @@ module _ {s : State} {buys sells area starts : List ℕ} {clients legs′ : ℕ}
   -- ---- the bytes that the code writes are the statement's
 
   module _ {h : Held} (q : ReplayIs accounts n clientPlaces area (s .tradecount) h) (t : h .covered ≡ true) {r : Books} (w : BooksIs cs area (pricesDue cs buys sells area) r) where
-    now-at : (k c : ℕ) → k < clientPlaces → c < n → getD (getD (h .accounts) k noAccount .holdings) c noHolding ≡ holdingAt (holdingsNow y) k c
-    unfolding holdingAt accountAt
+    now-at : (k c : ℕ) → k < clientPlaces → c < n → holdingAt (h .accounts) k c ≡ holdingAt (holdingsNow y) k c
     now-at k c lk lc = sym (used-holding n clientPlaces (h .accounts) k c lk lc) ∙ ap (λ (l : List Account). holdingAt l k c) (holdings-are q t)
 
-    holdings-told : accountsBytes (h .accounts) clients n ≡ holdingsBytes (holdingsNow y) clients n
+    holdings-told : holdingsBytes (h .accounts) clients n ≡ holdingsBytes (holdingsNow y) clients n
     unfolding holdingsBytes
     holdings-told =
         row-ext _ (λ k. inRow n (λ c. holdingBytes (holdingAt (holdingsNow y) k c))) clients

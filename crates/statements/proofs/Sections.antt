@@ -1,9 +1,9 @@
 -- The statement's bytes written one after the other. Assumes nothing.
 use mathlib.Core.Bool.{Bool, true, false}
 use mathlib.Core.List.{List, [], _∷_, _++_}
-use mathlib.Core.Path.{_≡_, refl, ap, _∙_}
-use Prim.Native.Nat.{ℕ, zero, suc, _+_, _-_, _*_, _<_, _≤_}
-use native.Mathlib.Nat.{le-refl, mul-le-mul-right}
+use mathlib.Core.Path.{_≡_, refl}
+use Prim.Native.Nat.{ℕ, _+_, _*_, _<_, _≤_}
+use native.Mathlib.Nat.{mul-le-mul-right}
 use native.Mathlib.Omega.{arith}
 use borrow.Author.Tests.{lt-ltb, le-ltb}
 use lib.Dec.{eqb}
@@ -14,57 +14,14 @@ use Rattle.areas.specs.Lists.{over}
 use Rattle.rules.specs.Bounds.{maxResting}
 use Rattle.rules.specs.Exchange.{noTrade}
 use Rattle.rules.specs.Memory.{recordedTrades}
-use Rattle.rules.specs.declared.Holding.{Holding}
 use Rattle.rules.specs.declared.Trade.{Trade}
 use Rattle.rules.proofs.Codecs.{length-trades}
 use Rattle.endian.specs.Written.{Written}
 use Rattle.endian.proofs.Writes.{then, no-byte, looser, length-four}
 use Rattle.endian.specs.Numbers.{two, four, eight, unsigned}
-use Rattle.clients.specs.Clients.{inRow, isClient, legsIn}
-use Rattle.statements.specs.Statement.{legBytes, tradeBytes, tradesBytes, holdingBytes, profitBytes, section}
-use Rattle.clients.proofs.Rows.{row-more}
-
--- no looser than they are
-pub exact : {before bytes after : List ℕ} {most at next : ℕ} → Written most before at bytes after next → Written (length bytes) before at bytes after next
-exact w = record { content = w .content; ends = w .ends; short = le-refl _; kept = w .kept; inside = w .inside }
-
--- ---- n things in a row: the first k are written
-
-module _ (f : ℕ → List ℕ) (n : ℕ) (out₀ : List ℕ) (at : ℕ) where
-  pub record Telling (k next : ℕ) (out : List ℕ) : Type 0 where
-    pub within : k ≤ n
-    pub row : Written (length (inRow k f)) out₀ at (inRow k f) out next
-
-  pub telling-none : at ≤ length out₀ → Telling 0 at out₀
-  unfolding inRow
-  telling-none h = record { within = omega arith; row = no-byte out₀ at h }
-
-  -- a shorter row is no longer
-  row-up : (k m : ℕ) → length (inRow k f) ≤ length (inRow (k + m) f)
-  row-up k zero = let e : k + 0 ≡ k = omega arith in rw e (le-refl _)
-  row-up k (suc m) =
-      let e : k + suc m ≡ k + m + 1 = omega arith in
-      rw (e, row-more f (k + m), length-append (inRow (k + m) f) (f (k + m))) (omega (arith, row-up k m))
-
-  module _ (k next : ℕ) (out : List ℕ) (l : k < n) (t : Telling k next out) where
-    pub telling-room : at + length (inRow n f) ≤ length out₀ → next + length (f k) ≤ length out
-    telling-room h =
-        let e : k + 1 + (n - (k + 1)) ≡ n = omega arith in
-        let u : length (inRow (k + 1) f) ≤ length (inRow n f) = rw e at (row-up (k + 1) (n - (k + 1))) in
-        let v : length (inRow (k + 1) f) ≡ length (inRow k f) + length (f k) = ap length (row-more f k) ∙ length-append (inRow k f) (f k) in
-        omega (arith, t .row .ends, t .row .kept)
-
-    -- .. of w bytes
-    pub telling-fits : {w : ℕ} → length (f k) ≡ w → at + length (inRow n f) ≤ length out₀ → next + w ≤ length out
-    telling-fits e h = let r = telling-room h in omega arith
-
-    pub telling-more : {most next′ : ℕ} {out′ : List ℕ} → Written most out next (f k) out′ next′ → Telling (k + 1) next′ out′
-    telling-more w = record { within = omega arith; row = rw (row-more f k) (exact (then (t .row) w)) }
-
-  pub telling-done : (k next : ℕ) (out : List ℕ) → n ≤ k → Telling k next out → Written (length (inRow n f)) out₀ at (inRow n f) out next
-  telling-done k next out h t =
-      let e : k ≡ n = omega (arith, t .within) in
-      rw e at (t .row)
+use Rattle.sections.specs.Sections.{inRow, section}
+use Rattle.clients.specs.Clients.{isClient, legsIn}
+use Rattle.statements.specs.Statement.{legBytes, tradeBytes, tradesBytes, profitBytes}
 
 -- ---- trades
 
@@ -146,16 +103,7 @@ pub trades-row : (area : List ℕ) (count : ℕ)
 unfolding tradesBytes
 trades-row area count = rw (length-trades area count)
 
--- ---- holdings and profit
-
-pub holding-written : {before middle after : List ℕ} {at j next : ℕ} (h : Holding) → Written 4 before at (four (h .long)) middle j → Written 4 middle j (four (h .short)) after next
-    → Written 8 before at (holdingBytes h) after next
-unfolding holdingBytes
-holding-written h w v = then w v
-
-pub length-holding : (h : Holding) → length (holdingBytes h) ≡ 8
-unfolding holdingBytes four two
-length-holding h = refl
+-- ---- profit
 
 pub profit-written : {before middle after : List ℕ} {at j next : ℕ} (closing holding : ℤ) (m n : ℕ) → m ≡ unsigned closing → n ≡ unsigned holding
     → Written 8 before at (eight m) middle j → Written 8 middle j (eight n) after next → Written 16 before at (profitBytes closing holding) after next

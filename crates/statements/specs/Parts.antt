@@ -11,7 +11,7 @@ use Rattle.laws.specs.Tabulate.{tabulate}
 use Rattle.areas.specs.Lists.{over}
 use Rattle.rules.specs.Answers.{firstOf}
 use Rattle.rules.specs.Bounds.{maxTrades, maxContracts, maxPrice, maxMultiplier, maxLimit}
-use Rattle.rules.specs.Exchange.{Exchange, holdingAt, noAccount, noHolding, noTrade}
+use Rattle.rules.specs.Exchange.{Exchange, holdingAt, noTrade}
 use Rattle.rules.specs.Memory.{Declared, Memory, exchangeOf, recordedTrades, used, WellFormedState, memory, tradeStride}
 use Rattle.rules.specs.Settlement.{settlementPrice}
 use Rattle.rules.specs.declared.Account.{Account}
@@ -20,9 +20,10 @@ use Rattle.rules.specs.declared.Trade.{Trade}
 use Rattle.dayprofit.specs.Day.{Priceable, SizedTrades}
 use Rattle.settlement.specs.Settling.{AllPayable, AllPriceable, contractIn, pricesDue}
 use Rattle.replaying.specs.Parts.{Booked}
+use Rattle.sections.specs.Sections.{holdingsBytes, inRow, section}
 use Rattle.clients.specs.Parts.{clientsWith}
-use Rattle.clients.specs.Clients.{Clients, clientAccount, clientExchange, inRow, legCount, startsAddUp, maxClients, clientPlaces}
-use Rattle.statements.specs.Statement.{dayRefusals, holdingBytes, postedRefusals, profitBytes, section, statementOf, tradesBytes}
+use Rattle.clients.specs.Clients.{Clients, clientAccount, clientExchange, legCount, startsAddUp, maxClients, clientPlaces}
+use Rattle.statements.specs.Statement.{dayRefusals, postedRefusals, profitBytes, statementOf, tradesBytes}
 use Rattle.statements.specs.declared.Statement.{Statement}
 
 -- a state whose contracts can be priced, and whose accounts can be paid at those prices
@@ -32,19 +33,13 @@ pub record Profitable (s : State) (buys sells area : List ℕ) : Type 0 where
 
 -- ---- the statement's bytes, from what the code has worked out
 
-abbrev pub accountBytes : Account → ℕ → List ℕ
-accountBytes a contracts = inRow contracts (λ c. holdingBytes (getD (a .holdings) c noHolding))
-
-abbrev pub accountsBytes : List Account → ℕ → ℕ → List ℕ
-accountsBytes accounts clients contracts = inRow clients (λ k. accountBytes (getD accounts k noAccount) contracts)
-
 abbrev pub bookBytes : List ℤ → List ℤ → ℕ → List ℕ
 bookBytes closing holding clients = inRow clients (λ k. profitBytes (getD closing k (pos 0)) (getD holding k (pos 0)))
 
 abbrev pub told : List Trade → ℕ → List Account → List ℤ → List ℤ → ℕ → ℕ → List ℕ
 told ts legs accounts closing holding clients contracts =
     section legs (tradesBytes ts)
-    ++ (section (clients * contracts) (accountsBytes accounts clients contracts) ++ section clients (bookBytes closing holding clients))
+    ++ (section (clients * contracts) (holdingsBytes accounts clients contracts) ++ section clients (bookBytes closing holding clients))
 
 pub record Tellable (area : List ℕ) (count legs : ℕ) (accounts : List Account) (closing holding : List ℤ) (clients contracts : ℕ) (out : List ℕ) : Type 0 where
   pub few-clients : clients ≤ maxClients

@@ -11,20 +11,17 @@ use Rattle.laws.specs.Choice.{pick, allOf}
 use Rattle.laws.specs.Sums.{sumTo}
 use Rattle.areas.specs.Lists.{over}
 use Rattle.rules.specs.Answers.{Refusal, firstOf, _when_}
-use Rattle.rules.specs.Exchange.{Exchange, absent, holdingAt, noTrade, placeOf}
+use Rattle.rules.specs.Exchange.{Exchange, absent, noTrade, placeOf}
 use Rattle.rules.specs.Memory.{Memory, exchangeOf, wellFormedMemory}
 use Rattle.rules.specs.Settlement.{closingProfit, holdingProfit}
-use Rattle.rules.specs.declared.Account.{Account}
-use Rattle.rules.specs.declared.Holding.{Holding}
 use Rattle.rules.specs.declared.Trade.{Trade}
 use Rattle.endian.specs.Numbers.{four, eight, unsigned}
-use Rattle.clients.specs.Clients.{Clients, clientExchange, holdingsNow, inRow, isClient, legCount, maxClients, neverClosesMore, startsAddUp, tradePosted}
+use Rattle.sections.specs.Sections.{holdingsBytes, inRow, section}
+use Rattle.clients.specs.Clients.{Clients, clientExchange, holdingsNow, isClient, legCount, maxClients, neverClosesMore, startsAddUp, tradePosted}
 use Rattle.statements.specs.declared.Statement.{Statement}
 
--- ---- the statement, of the clients' exchange: "sections in a fixed order, each after its count"; "section counts take 4 bytes"
-
-abbrev pub section : ℕ → List ℕ → List ℕ
-section count bytes = four count ++ bytes
+-- ---- the statement, of the clients' exchange: "sections in a fixed order, each after its count"; a section, and holdings as bytes, stand
+-- in sections/specs/Sections
 
 -- "trades (client 1, contract 1, sell mark 1, close mark 1, price 4, lots 4, order number 4; marks are 0 or 1)"; contracts are
 -- numbered from 1, as clients are
@@ -44,16 +41,6 @@ tradeBytes t =
 unfoldable pub tradesBytes : List Trade → List ℕ
 tradesBytes ts = inRow (length ts) (λ i. tradeBytes (getD ts i noTrade))
 
--- "holdings now (long 4, short 4, by client then contract)"
-unfoldable pub holdingBytes : Holding → List ℕ
-holdingBytes h = four (h .long) ++ four (h .short)
-
-abbrev pub holdingWidth : ℕ
-holdingWidth = 8
-
-unfoldable pub holdingsBytes : List Account → ℕ → ℕ → List ℕ
-holdingsBytes accounts clients contracts = inRow clients (λ k. inRow contracts (λ c. holdingBytes (holdingAt accounts k c)))
-
 -- "profit (signed closing 8, signed holding 8, by client)"
 unfoldable pub profitBytes : ℤ → ℤ → List ℕ
 profitBytes closing holding = eight (unsigned closing) ++ eight (unsigned holding)
@@ -64,6 +51,7 @@ profitWidth = 16
 unfoldable pub profitsBytes : Exchange → ℕ → List ℕ
 profitsBytes x clients = inRow clients (λ k. profitBytes (closingProfit x k) (holdingProfit x k))
 
+-- "holdings now (long 4, short 4, by client then contract)" stand between the two
 unfoldable pub statementOf : Exchange → ℕ → List ℕ
 statementOf x clients =
     section (legCount (x .trades)) (tradesBytes (x .trades))

@@ -23,8 +23,9 @@ use Rattle.rules.specs.Settlement.{afterDayLeg, afterLegs, closingProfit, dayOf
 use Rattle.rules.specs.WellFormed.{ahead, aheadOfFirst, allListed, balanceInRange, contractInRange, countersInRange, heldInRange, holdingInRange, holdingsInRange, listed, listingQuoted, markAllowed, markInRange, orderInRange, ordersInRange, queueQuoted, queuesSorted, quotes, rangesKept, replays, restingInRange, sorted, tradeInRange, uncrossed, usedOnce, wellFormedContents}
 use Rattle.rules.specs.declared.Trade.{Trade}
 use Rattle.endian.specs.Numbers.{two, four, eight, unsigned}
-use Rattle.clients.specs.Clients.{Clients, clientAccount, clientExchange, clientPlace, clientTrade, holdingsNow, inRow, isPosted, legCount, legsIn, neverClosesMore, posted, postedTo, startsAddUp, total, tradePosted}
-use Rattle.statements.specs.Statement.{brokerRefusals, holdingBytes, holdingsBytes, legBytes, profitBytes, profitsBytes, statementCode, statementOf, tradeBytes, tradesBytes}
+use Rattle.sections.specs.Sections.{holdingBytes, holdingsBytes, inRow}
+use Rattle.clients.specs.Clients.{Clients, clientAccount, clientExchange, clientPlace, clientTrade, holdingsNow, isPosted, legCount, legsIn, neverClosesMore, posted, postedTo, startsAddUp, total, tradePosted}
+use Rattle.statements.specs.Statement.{brokerRefusals, legBytes, profitBytes, profitsBytes, statementCode, statementOf, tradeBytes, tradesBytes}
 
 unfoldable pub trade : ℕ → ℕ → ℕ → ℕ → ℕ → ℕ → ℕ → ℕ → Trade
 trade price lots buyorder sellorder buyer seller buyclose sellclose =

@@ -45,7 +45,7 @@ fn tell<'a>(
     }
     let length = SECTION_COUNTS
         + writing::LEG_WIDTH * legs
-        + writing::HOLDING_WIDTH * (clients * contracts)
+        + sections::HOLDING_WIDTH * (clients * contracts)
         + writing::PROFIT_WIDTH * clients;
     if out.len() < length {
         return refused(29);

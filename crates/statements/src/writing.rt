@@ -7,13 +7,13 @@ ghost use lib.Dec.{eqb};
 ghost use lib.ListN.{length, getD};
 ghost use Rattle.laws.specs.Choice.{pick};
 ghost use Rattle.areas.specs.Lists.{over};
-ghost use Rattle.rules.specs.Bounds.{maxContracts, maxAccounts};
+ghost use Rattle.rules.specs.Bounds.{maxContracts};
 ghost use Rattle.rules.specs.Exchange.{noTrade};
 ghost use Rattle.rules.specs.Memory.{recordedTrades, tradeStride};
 ghost use Rattle.endian.specs.Written.{Written};
 ghost use Rattle.clients.specs.Clients.{isClient, maxClients};
-ghost use Rattle.statements.specs.Statement.{legWidth, holdingWidth, profitWidth};
-ghost use Rattle.statements.specs.Parts.{accountBytes, accountsBytes, bookBytes, Tellable, told};
+ghost use Rattle.statements.specs.Statement.{legWidth, profitWidth};
+ghost use Rattle.statements.specs.Parts.{bookBytes, Tellable, told};
 ghost use Rattle.statements.specs.Statement as statement;
 use book::trades;
 use endian::writing::put_byte;
@@ -21,13 +21,11 @@ use endian::writing::put_u32;
 use endian::writing::put_u64;
 use endian::writing::unsigned;
 use rules::Account;
-use rules::Holding;
 use rules::Trade;
+use sections::put_holdings;
 
-// How many bytes a leg, a holding and a client's profit take.
+// How many bytes a leg and a client's profit take.
 pub const LEG_WIDTH: usize = 16;
-
-pub const HOLDING_WIDTH: usize = 8;
 
 pub const PROFIT_WIDTH: usize = 16;
 
@@ -101,50 +99,6 @@ fn put_trades(area: &[u32], count: usize, out: &mut [u8], at: usize) -> usize
         let t = trades::trade_at(area, i);
         next = put_trade(out, next, t);
         i += 1;
-    }
-    next
-}
-
-fn put_holding(out: &mut [u8], at: usize, h: Holding) -> usize
-    requires { ⌜ at + holdingWidth ≤ length (now out) ⌝ }
-    ensures { λ r. ⌜ Written holdingWidth (now (out .entry)) at (statement.holdingBytes h) (now (out .exit)) r ⌝ }
-{
-    let next = put_u32(out, at, h.long);
-    put_u32(out, next, h.short)
-}
-
-// One client's holdings.
-fn put_account(out: &mut [u8], at: usize, a: Account, contracts: usize) -> usize
-    requires { ⌜ (contracts ≤ maxContracts) × (at + length (accountBytes a contracts) ≤ length (now out)) ⌝ }
-    ensures { λ r. ⌜ Written (length (accountBytes a contracts)) (now (out .entry)) at (accountBytes a contracts) (now (out .exit)) r ⌝ }
-{
-    let mut next = at;
-    let mut c: usize = 0;
-    while c < contracts {
-        let h = a.holdings[c];
-        next = put_holding(out, next, h);
-        c += 1;
-    }
-    next
-}
-
-// The holdings of so many accounts, by account then contract.
-pub fn put_holdings(
-    out: &mut [u8],
-    at: usize,
-    accounts: [Account; rules::MAX_ACCOUNTS],
-    clients: usize,
-    contracts: usize,
-) -> usize
-    requires { ⌜ (clients ≤ maxAccounts) × (contracts ≤ maxContracts) × (at + length (accountsBytes accounts clients contracts) ≤ length (now out)) ⌝ }
-    ensures { λ r. ⌜ Written (length (accountsBytes accounts clients contracts)) (now (out .entry)) at (accountsBytes accounts clients contracts) (now (out .exit)) r ⌝ }
-{
-    let mut next = at;
-    let mut k: usize = 0;
-    while k < clients {
-        let a = accounts[k];
-        next = put_account(out, next, a, contracts);
-        k += 1;
     }
     next
 }

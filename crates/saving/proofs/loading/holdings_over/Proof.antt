@@ -6,7 +6,7 @@ use borrow.Author.Needs.{needs}
 use lib.ListN.{length}
 use Rattle.laws.specs.Lists.{unmapped}
 use Rattle.laws.specs.Written.{Writing, writing-none, writing-more, writing-done}
-use Rattle.statements.specs.Statement.{holdingWidth}
+use Rattle.sections.specs.Sections.{holdingWidth}
 use Rattle.saved.specs.Saved.{savedHolding}
 use Rattle.saving.proofs.loading.holdings_over.Statement.{statement}
 use Rattle.saving.proofs.loading.holdings_over.Tie as tie

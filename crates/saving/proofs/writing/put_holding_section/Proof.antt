@@ -1,7 +1,7 @@
 -- `writing::put_holding_section` meets its contract. Assumes nothing.
 use Prim.Native.Nat.{_*_}
 use native.Mathlib.Omega.{arith}
-use Rattle.statements.specs.Parts.{accountsBytes}
+use Rattle.sections.specs.Sections.{holdingsBytes}
 use Rattle.saving.proofs.Sections.{both-written, count-room, few-entries, second-room}
 use borrow.Author.Needs.{needs}
 use Rattle.saving.proofs.writing.put_holding_section.Statement.{statement}
@@ -14,7 +14,7 @@ cast-put-u32 : tie.Need-cast-put-u32
 cast-put-u32 c = omega (arith, few-entries (c .before .before .pre .0) (c .before .before .pre .1))
 
 put-u32-requires : tie.Need-put-u32-requires
-put-u32-requires c κs = count-room (c .before .before .args .n * c .before .before .args .contracts) (accountsBytes (c .before .before .args .list) (c .before .before .args .n) (c .before .before .args .contracts)) _ _ (c .before .before .pre .2)
+put-u32-requires c κs = count-room (c .before .before .args .n * c .before .before .args .contracts) (holdingsBytes (c .before .before .args .list) (c .before .before .args .n) (c .before .before .args .contracts)) _ _ (c .before .before .pre .2)
 
 put-holdings-requires : tie.Need-put-holdings-requires
 put-holdings-requires c κs = (c .before .before .before .before .before .before .pre .0, c .before .before .before .before .before .before .pre .1, second-room _ _ (c .before .before .before .put-u32 .ensures) (c .before .before .before .before .before .before .pre .2))

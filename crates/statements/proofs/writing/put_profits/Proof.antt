@@ -6,7 +6,8 @@ use lib.ListN.{getD}
 use mir.Facts.{toZ-ofZ}
 use mir.Syntax.{w64}
 use Rattle.statements.specs.Statement.{profitBytes}
-use Rattle.statements.proofs.Sections.{Telling, telling-none, telling-fits, telling-more, telling-done, length-profit}
+use Rattle.sections.proofs.Rows.{Telling, telling-none, telling-fits, telling-more, telling-done}
+use Rattle.statements.proofs.Sections.{length-profit}
 use Rattle.statements.proofs.writing.put_profits.Statement.{statement}
 use Rattle.statements.proofs.writing.put_profits.Tie as tie
 

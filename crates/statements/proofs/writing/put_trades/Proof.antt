@@ -7,7 +7,8 @@ use Rattle.rules.specs.Exchange.{noTrade}
 use Rattle.rules.specs.Memory.{recordedTrades}
 use Rattle.rules.proofs.Codecs.{trade-at}
 use Rattle.statements.specs.Statement.{tradeBytes}
-use Rattle.statements.proofs.Sections.{Telling, telling-none, telling-room, telling-more, telling-done, trades-row}
+use Rattle.sections.proofs.Rows.{Telling, telling-none, telling-room, telling-more, telling-done}
+use Rattle.statements.proofs.Sections.{trades-row}
 use Rattle.statements.proofs.writing.put_trades.Statement.{statement}
 use Rattle.statements.proofs.writing.put_trades.Tie as tie
 
