@@ -1,21 +1,25 @@
 -- What a bundle leaves, refused and carried out; what a list with answers leaves; and a day of calls is the rules' run of the
 -- commands that it reads. Assumes nothing.
-use mathlib.Core.Bool.{true, false, not, _||_}
+use mathlib.Core.Bool.{Bool, true, false, not, _||_}
 use mathlib.Core.List.{List, [], _∷_}
 use mathlib.Core.Path.{_≡_, refl, sym, ap, subst, _∙_}
 use Prim.Native.Nat.{ℕ, _*_, _/_, _<_, _≤_, min}
 use native.Mathlib.Omega.{arith}
-use borrow.Author.Tests.{lt-ltb, le-ltb, ltb-false, ne-eqb, not-false}
-use lib.Dec.{ltb}
-use lib.ListN.{length, take}
-use Rattle.laws.specs.Choice.{either-false}
+use borrow.Author.Tests.{eqb-true, lt-ltb, le-ltb, ltb-false, ne-eqb, not-false}
+use lib.Dec.{eqb, ltb}
+use lib.ListN.{length, take, drop, replicate}
+use lib.Seq.{take-at}
+use Rattle.laws.specs.Choice.{either-false, pick}
+use Rattle.laws.specs.Tabulate.{tabulate, length-tabulate}
+use Rattle.laws.specs.Written.{written}
 use Rattle.areas.specs.Records.{store}
 use Rattle.areas.proofs.Records.{store-nil}
 use Rattle.rules.specs.Answers.{firstOf, _when_}
 use Rattle.rules.specs.Condition3.{MoneyKept, run}
-use Rattle.rules.specs.DayFile.{commandWidth}
+use Rattle.rules.specs.DayFile.{commandFrom, commandWidth}
 use Rattle.rules.specs.Memory.{Declared, Memory, respond, wellFormedMemory}
 use Rattle.rules.specs.declared.Command.{Command}
+use Rattle.rules.specs.declared.Command.the-variants.{Malformed}
 use Rattle.rules.proofs.Refusals.{failed}
 use Rattle.accounting.proofs.Runs.{run-append}
 use Rattle.invariants.proofs.Condition3.{money-left}
@@ -84,13 +88,39 @@ module _ (m : Memory) (d : Declared (m .state)) (cs : List Command) (count : ℕ
       let left : m′ ≡ run m done = rw all ran in
       record { code = f ∙ sym e; memory = left; answers-are = rw all told; money = money-left m d done m′ left }
 
--- the commands of a bundle's bytes are its whole records'
-pub whole-carried : (m : Memory) (d : Declared (m .state)) (bytes area : List ℕ) {count : ℕ} {b : Receipt} {m′ : Memory} {answers : List ℕ} → count ≡ length bytes / commandWidth
-    → bundleCode m count (length area) ≡ 0 → b .code ≡ 0 → m′ ≡ run m (firstCommands bytes count)
-    → answers ≡ store answerWords area 0 (answersTo m (firstCommands bytes count)) → BundleIs m (wholeCommands bytes) count area b m′ answers
-whole-carried m d bytes area {count} {m′ = m′} {answers = answers} e code f ran told =
-    let whole : firstCommands bytes count ≡ take count (wholeCommands bytes) = sym (take-first bytes count) ∙ ap (λ (n : ℕ). take count (firstCommands bytes n)) e in
-    all-carried m d (wholeCommands bytes) count area code f (subst (λ (l : List Command). m′ ≡ run m l) whole ran) (subst (λ (l : List Command). answers ≡ store answerWords area 0 (answersTo m l)) whole told)
+-- the commands that a bundle carries out are the first of those given, and of none where they are more than a bundle has
+same-carried : (m : Memory) (cs ds : List Command) (count words : ℕ) → (count ≤ maxBundle → take count cs ≡ take count ds) → carried m cs count words ≡ carried m ds count words
+unfolding carried
+same-carried m cs ds count words same = by-code (eqb (bundleCode m count words) 0) refl
+  where
+    by-code : (t : Bool) → eqb (bundleCode m count words) 0 ≡ t → pick t (take count cs) [] ≡ pick t (take count ds) []
+    by-code true e = same (not-refused m count words (eqb-true (bundleCode m count words) 0 e) .few)
+    by-code false e = refl
+
+-- so a list that begins with the same commands makes the same bundle
+pub same-bundle : (m : Memory) (cs ds : List Command) (count : ℕ) (area : List ℕ) {b : Receipt} {m′ : Memory} {answers : List ℕ}
+    → (count ≤ maxBundle → take count cs ≡ take count ds) → BundleIs m cs count area b m′ answers → BundleIs m ds count area b m′ answers
+same-bundle m cs ds count area {b} {m′} {answers} same is =
+    let e = same-carried m cs ds count (length area) same in
+    record {
+      code = is .code;
+      memory = subst (λ (l : List Command). m′ ≡ run m l) e (is .memory);
+      answers-are = subst (λ (l : List Command). answers ≡ store answerWords area 0 (answersTo m l)) e (is .answers-are);
+      money = subst (λ (l : List Command). MoneyKept m l m′) e (is .money);
+    }
+
+-- the commands of a bundle's bytes, read into an array
+pub read-bundle : (bytes : List ℕ) {array : List Command} {count n : ℕ} → n ≡ min count maxBundle
+    → array ≡ written (λ i. commandFrom bytes (commandWidth * i)) (replicate maxBundle Malformed) n → count ≡ length bytes / commandWidth
+    → count ≤ maxBundle → take count array ≡ take count (wholeCommands bytes)
+unfolding written firstCommands
+read-bundle bytes {array} {count} {n} fewer read whole h =
+    let e : n ≡ count = omega arith in
+    let f : ℕ → Command = λ i. commandFrom bytes (commandWidth * i) in
+    ap (take count) (read ∙ ap (λ (k : ℕ). written f (replicate maxBundle Malformed) k) e)
+    ∙ take-at (tabulate count f) (drop count (replicate maxBundle Malformed)) count (length-tabulate count f)
+    ∙ sym (take-first bytes count)
+    ∙ ap (λ (k : ℕ). take count (firstCommands bytes k)) whole
 
 -- ---- what a list with answers leaves
 

@@ -3,15 +3,17 @@
 ghost use mathlib.Core.Bool.{true};
 ghost use mathlib.Core.Path.{_≡_};
 ghost use Prim.Native.Nat.{_*_, _/_, _≤_};
-ghost use lib.ListN.{length, take};
+ghost use lib.ListN.{length, replicate, take};
+ghost use Rattle.laws.specs.Written.{written};
 ghost use Rattle.areas.specs.Records.{store};
 ghost use Rattle.rules.specs.Condition3.{run};
-ghost use Rattle.rules.specs.DayFile.{commandWidth};
+ghost use Rattle.rules.specs.DayFile.{commandFrom, commandWidth};
 ghost use Rattle.rules.specs.Memory.{memory, wellFormedMemory};
+ghost use Rattle.rules.specs.declared.Command.the-variants.{Malformed};
 ghost use Rattle.exchange.specs.Run.{wholeCommands};
 ghost use Rattle.baskets.specs.Bundle.{BundleIs, answerWords, answersTo, bundleCode, maxBundle, answerStride};
 use crate::answers::answer_command;
-use crate::list::answer_records;
+use crate::list::fewer;
 use rules::Command;
 use rules::State;
 
@@ -103,6 +105,22 @@ pub fn submit(
     }
 }
 
+// The commands of the first `count` records, at the array's first places. For this file: it asks for as many whole records, and for no
+// more than a bundle has.
+fn read_commands(bytes: &[u8], count: usize) -> [Command; MAX_BUNDLE]
+    requires { ⌜ (count ≤ maxBundle) × (commandWidth * count ≤ length (now bytes)) ⌝ }
+    ensures { λ r. ⌜ r ≡ written (λ i. commandFrom (now (bytes .entry)) (commandWidth * i)) (replicate maxBundle Malformed) count ⌝ }
+{
+    let mut commands = [Command::Malformed; MAX_BUNDLE];
+    let mut k: usize = 0;
+    while k < count {
+        let record = endian::reading::record_at(bytes, rules::COMMAND_WIDTH * k);
+        commands[k] = commands::command_of(record);
+        k += 1;
+    }
+    commands
+}
+
 // The same for a bundle's bytes: whole records of 24; what is left behind the last whole one is no command.
 pub fn submit_bytes(
     state: State,
@@ -115,20 +133,6 @@ pub fn submit_bytes(
     ensures { λ r. ⌜ BundleIs (memory state (now (buys .entry)) (now (sells .entry)) (now (trades .entry))) (wholeCommands (now (bytes .entry))) (length (now (bytes .entry)) / commandWidth) (now (answers .entry)) r (memory (r .state) (now (buys .exit)) (now (sells .exit)) (now (trades .exit))) (now (answers .exit)) ⌝ }
 {
     let count = bytes.len() / rules::COMMAND_WIDTH;
-    let code = refusal(
-        state,
-        &buys[..],
-        &sells[..],
-        &trades[..],
-        count,
-        answers.len(),
-    );
-    if code != 0 {
-        return Receipt { code, state };
-    }
-    let next = answer_records(true, state, buys, sells, trades, bytes, count, answers);
-    Receipt {
-        code: 0,
-        state: next,
-    }
+    let commands = read_commands(bytes, fewer(count, MAX_BUNDLE));
+    submit(state, buys, sells, trades, commands, count, answers)
 }

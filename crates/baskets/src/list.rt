@@ -19,9 +19,9 @@ pub struct Ran {
     pub state: State,
 }
 
-// The commands of the first `count` records in turn, each answered in the area. For this crate: it asks to be told whether the state
+// The commands of the first `count` records in turn, each answered in the area. For this file: it asks to be told whether the state
 // is well formed, for as many whole records, and for room for as many answers.
-pub fn answer_records(
+fn answer_records(
     formed: bool,
     state: State,
     buys: &mut [u32],
@@ -46,7 +46,7 @@ pub fn answer_records(
     current
 }
 
-fn fewer(a: usize, b: usize) -> usize
+pub fn fewer(a: usize, b: usize) -> usize
     ensures { λ r. ⌜ r ≡ min a b ⌝ }
 {
     if a < b { a } else { b }
