@@ -11,6 +11,8 @@ docs/RULES.md, of the index of docs/DECISIONS.md and of the comments in crates/*
 to the paper or ticket that its section goes through, and every sentence of the papers is held to have its row there. Two points (..)
 stand for words left out; the first letter may be large or small.
 
+Each must-fail edit is applied as the gate applies it: its file stands in its crate, and its old text stands there just once.
+
 Prints what stands nowhere, and ends with 1 then."""
 import argparse
 import glob
@@ -143,6 +145,42 @@ def undefined_in_files(text, top):
         heads = heads_of(read(path)) if os.path.exists(path) else ()
         found += [f"{where}: {name}" for name in re.findall(r"`([^` ]+)`", names) if name not in heads]
     return found
+
+
+# --- Must-fail edits ---
+
+
+def pairs_of(edit):
+    """The file, the old text and the new one of each replacement of an edit, in turn. A file holds for the pairs behind it."""
+    file, old = "", ""
+    for kind, text in re.findall(r"(?m)^(file|old|new): ?(.*)$", edit):
+        if kind == "file":
+            file = text
+        elif kind == "old":
+            old = text
+        else:
+            yield file, old, text
+
+
+def stale(edit, crate):
+    """Why an edit cannot be applied to its crate's files, each replacement on what the ones before it leave; nothing where it can."""
+    texts, pairs = {}, list(pairs_of(edit))
+    for file, old, new in pairs:
+        path = os.path.join(crate, file)
+        if file.split("/")[0] not in ("src", "specs", "proofs") or not os.path.isfile(path):
+            return f"there is no file {file}"
+        text = texts.setdefault(file, read(path))
+        if not old or text.count(old) != 1:
+            return f"its old text stands {text.count(old) if old else 0} times in {file}: {old}"
+        texts[file] = text.replace(old, new)
+    return "" if pairs else "it has no old and new text"
+
+
+def check_edits(top):
+    for path in sorted(glob.glob(os.path.join(top, "crates", "*", "must-fail", "*.edit"))):
+        why = stale(read(path), os.path.dirname(os.path.dirname(path)))
+        if why:
+            yield f"{os.path.relpath(path, top)}: {why}"
 
 
 # --- Quotations ---
@@ -356,7 +394,7 @@ def main(arguments=()):
     parser = argparse.ArgumentParser(description=__doc__, formatter_class=argparse.RawDescriptionHelpFormatter)
     parser.add_argument("--papers", metavar="FOLDER", default=os.environ.get("PAPERS"))
     folder = parser.parse_args(arguments).papers
-    found = list(check_names())
+    found = [*check_names(), *check_edits(TOP)]
     if folder:
         found += check_quotations(Papers.at(folder))
     else:

@@ -85,6 +85,41 @@ class Places(unittest.TestCase):
         self.assertEqual(check_docs.undefined_in_files(wrong, str(self.top)), ["rules/specs/Matching: charge", "matching/specs/Margin: charge"])
 
 
+class Edits(unittest.TestCase):
+    """That of this repository none is stale is held by `test_the_documents`."""
+
+    def setUp(self):
+        folder = tempfile.TemporaryDirectory()
+        self.addCleanup(folder.cleanup)
+        self.top = folder.name
+        self.write("src/lib.rt", "a < b\na < c\n")
+
+    def write(self, name, text):
+        path = Path(self.top, "crates/rules", name)
+        path.parent.mkdir(parents=True, exist_ok=True)
+        path.write_text(text)
+
+    def found(self, text):
+        self.write("must-fail/wrong.edit", "# What would go wrong.\n" + text)
+        return [line.partition(": ")[2] for line in check_docs.check_edits(self.top)]
+
+    def test_an_edit_that_applies(self):
+        self.assertEqual(self.found("file: src/lib.rt\nold: a < b\nnew: b < a\n"), [])
+        self.assertEqual(self.found("file: src/lib.rt\nold: a < b\nnew:\nold: a < c\nnew: b\n"), [])
+
+    def test_old_text_that_is_gone_or_stands_twice(self):
+        self.assertEqual(self.found("file: src/lib.rt\nold: a < d\nnew: b\n"), ["its old text stands 0 times in src/lib.rt: a < d"])
+        self.assertEqual(self.found("file: src/lib.rt\nold: a <\nnew: b\n"), ["its old text stands 2 times in src/lib.rt: a <"])
+        self.assertEqual(self.found("file: src/lib.rt\nold: a < c\nnew: a < b\nold: a < b\nnew: b\n"), ["its old text stands 2 times in src/lib.rt: a < b"])
+
+    def test_a_file_that_does_not_stand(self):
+        self.assertEqual(self.found("file: src/main.rt\nold: a\nnew: b\n"), ["there is no file src/main.rt"])
+        self.assertEqual(self.found("file: must-fail/wrong.edit\nold: a\nnew: b\n"), ["there is no file must-fail/wrong.edit"])
+
+    def test_no_replacement(self):
+        self.assertEqual(self.found("file: src/lib.rt\n"), ["it has no old and new text"])
+
+
 CONDITIONS = """# The conditions
 
 Words about this paper.
