@@ -38,3 +38,13 @@ list-example = refl
 pub code-example : (mendCode broken 64 26 ≡ 0) × (mendCode broken 63 26 ≡ 29) × (mendCode broken 64 25 ≡ 29)
 unfolding front broken all allOf zeros bits commandOf settleOf u8At u16At u32At u64At contractsIn contractPlace accountsIn accountPlace commandPlace recordFrom contractFrom contractSound balanceFrom accountSound onTick tickMultiple termsInRange firstOf two four eight reason kept keptBytes dropped listFrom mendedFile headWhole headSound mendCode
 code-example = (refl, refl, refl)
+
+-- "20" before "29": no bytes are no file's front, whatever the room
+pub head-example : (mendCode [] 64 26 ≡ 20) × (mendCode [] 0 0 ≡ 20)
+unfolding all allOf u8At u16At u32At u64At contractsIn contractPlace accountsIn accountPlace commandPlace contractFrom contractSound balanceFrom accountSound onTick tickMultiple termsInRange firstOf headWhole headSound mendCode
+head-example = (refl, refl)
+
+-- the settlement is kept behind 1,999 kept ones and is surplus behind 2,000; the record of kind 255 is malformed all the same
+pub surplus-example : (reason broken 40 1 1_999 ≡ 0) × (reason broken 40 1 2_000 ≡ 3) × (reason broken 40 0 2_000 ≡ 1)
+unfolding front broken allOf zeros bits commandOf settleOf u8At u16At u32At u64At recordFrom reason
+surplus-example = (refl, refl, refl)

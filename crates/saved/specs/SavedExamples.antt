@@ -5,7 +5,7 @@ use mathlib.Core.List.{List, [], _∷_, _++_}
 use mathlib.Core.Path.{_≡_, refl}
 use Prim.Native.Nat.{ℕ, _*_}
 use lib.IntN.{pos, negsuc}
-use lib.ListN.{replicate}
+use lib.ListN.{drop, replicate, take}
 use Rattle.laws.specs.Choice.{all, allOf}
 use Rattle.laws.specs.Sums.{sumOf}
 use Rattle.laws.specs.Tabulate.{tabulate}
@@ -142,6 +142,16 @@ write-codes =
     ∷ writeCode (narrow (stateOf 0 3 1)) 78
     ∷ []
 
+-- a file whose holdings' count is 3 where 2 follow; one without accounts and one without contracts, right but for that
+abbrev threeHeld : List ℕ
+threeHeld = take 50 file ++ (3 ∷ drop 51 file)
+
+abbrev noAccounts : List ℕ
+noAccounts = take 28 file ++ (four 0 ++ (four 0 ++ (four 1 ++ four 1)))
+
+abbrev noContracts : List ℕ
+noContracts = four 0 ++ (four 1 ++ (replicate 9 0 ++ (four 0 ++ (four 1 ++ four 1))))
+
 -- a file is read whatever stood in the state; a count, a mark or a section count that is wrong breaks it, and so do a byte behind it and
 -- settlements above 250; 2 lots short are other totals; an area may lack room
 pub read-codes : List ℕ
@@ -157,14 +167,17 @@ read-codes =
     ∷ readCode (lent (stateOf 0 3 1)) (fileOf 1 1 2 1 1)
     ∷ readCode (narrow (stateOf 0 3 1)) file
     ∷ readCode (narrow (stateOf 0 3 1)) (fileOf 1 1 2 1 1)
+    ∷ readCode (lent (stateOf 0 3 1)) threeHeld
+    ∷ readCode (lent (stateOf 0 3 1)) noAccounts
+    ∷ readCode (lent (stateOf 0 3 1)) noContracts
     ∷ []
 
 pub write-example : write-codes ≡ 0 ∷ 29 ∷ 28 ∷ 28 ∷ 28 ∷ 21 ∷ []
 unfolding write-codes terms holders all allOf sumOf tabulate decode encode records onTick tickMultiple termsInRange accountAt holdingAt listingAt lotsWhere resting bookTrades neverBelowZero startOfDay sameLots sameHoldings contractInRange countersInRange sorted uncrossed rangesKept queuesSorted ordersInRange restingInRange listed allListed usedOnce quotes markAllowed queueQuoted listingQuoted markInRange replays heldInRange holdingInRange holdingsInRange balanceInRange wellFormedContents countsInRange hasRoom exchangeOf listingIn queueIn recordedTrades wellFormedMemory two four eight unsigned contractBytes accountBytes rowBytes holdingBytes savedBytes asleep totalsEqual allEqual writable firstOf writeCode
 write-example = refl
 
-pub read-example : read-codes ≡ 0 ∷ 0 ∷ 20 ∷ 20 ∷ 20 ∷ 20 ∷ 20 ∷ 20 ∷ 30 ∷ 29 ∷ 30 ∷ []
-unfolding read-codes terms holders fileOf all allOf sumOf tabulate decode records onTick tickMultiple termsInRange u8At u16At u32At u64At contractsIn contractFrom accountAt holdingAt listingAt lotsWhere resting bookTrades neverBelowZero startOfDay sameLots sameHoldings contractInRange countersInRange sorted uncrossed rangesKept queuesSorted ordersInRange restingInRange listed allListed usedOnce quotes markAllowed queueQuoted listingQuoted markInRange replays heldInRange holdingInRange holdingsInRange balanceInRange wellFormedContents hasRoom putAccounts putState signedOf savedContract savedHolding savedAccount accountsIn loadedListing loadedAccount loadedFrom countsRight shaped markSound savedSound totalsEqual allEqual loadedState firstOf readCode
+pub read-example : read-codes ≡ 0 ∷ 0 ∷ 20 ∷ 20 ∷ 20 ∷ 20 ∷ 20 ∷ 20 ∷ 30 ∷ 29 ∷ 30 ∷ 20 ∷ 20 ∷ 20 ∷ []
+unfolding read-codes terms holders fileOf two four all allOf sumOf tabulate decode records onTick tickMultiple termsInRange u8At u16At u32At u64At contractsIn contractFrom accountAt holdingAt listingAt lotsWhere resting bookTrades neverBelowZero startOfDay sameLots sameHoldings contractInRange countersInRange sorted uncrossed rangesKept queuesSorted ordersInRange restingInRange listed allListed usedOnce quotes markAllowed queueQuoted listingQuoted markInRange replays heldInRange holdingInRange holdingsInRange balanceInRange wellFormedContents hasRoom putAccounts putState signedOf savedContract savedHolding savedAccount accountsIn loadedListing loadedAccount loadedFrom countsRight shaped markSound savedSound totalsEqual allEqual loadedState firstOf readCode
 read-example = refl
 
 -- ---- the state after reading: the second contract's places and counts stay as they were
