@@ -5,7 +5,7 @@ ghost use Rattle.rules.specs.Memory.{countsInRange, exchangeOf, hasRoom, wellFo
 ghost use Rattle.rules.specs.WellFormed.{wellFormedContents};
 
 mod accounts;
-mod counts;
+pub mod counts;
 mod numbers;
 mod queues;
 mod quotes;

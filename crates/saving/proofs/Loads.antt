@@ -1,5 +1,5 @@
 -- The whole answer of `read_state`, by the test that decides it. Assumes nothing.
-use mathlib.Core.Bool.{Bool, true, false, _&&_}
+use mathlib.Core.Bool.{true, false}
 use mathlib.Core.List.{List}
 use mathlib.Core.Path.{_≡_, refl, sym, ap, ap₂, _∙_}
 use Prim.Native.Nat.{ℕ}
@@ -20,10 +20,6 @@ use Rattle.saved.proofs.Fields.{nothing-in}
 use Rattle.saved.proofs.Loaded.{Loadable, loaded-counts, loaded-in-use}
 use Rattle.saving.specs.Parts.{Laid, inSpare, spare}
 use Rattle.saving.proofs.Lying.{totals-in-use}
-
-and-true : (b : Bool) → (b && true) ≡ b
-and-true true = refl
-and-true false = refl
 
 not-read : (m : Memory) (bs : List ℕ) (code : ℕ) → code ≡ readCode m bs → eqb code 0 ≡ false → ReadIs m bs code (m .state)
 not-read m bs code e h = record { code-is = e; state-is = rw (← e, h) }
@@ -84,7 +80,7 @@ module _ {m : Memory} {bs : List ℕ} {c a : ℕ} {next : State} (g : Given m bs
   spare-in-use : exchangeOf (inSpare next) ≡ loadedFrom bs
   spare-in-use = ap (λ (n : State). exchangeOf (inSpare n)) (g .next-is) ∙ loaded-in-use (inSpare (m .state)) (g .declared) (loadedFrom bs) its-loadable
 
-  counts-are : countsInRange next ≡ true
+  pub counts-are : countsInRange next ≡ true
   counts-are = ap countsInRange (g .next-is) ∙ loaded-counts (inSpare (m .state)) (g .declared) (loadedFrom bs) its-loadable
 
   spare-formed : wellFormedMemory (inSpare next) ≡ wellFormedContents (loadedFrom bs)
@@ -122,22 +118,19 @@ module _ {m : Memory} {bs : List ℕ} {c a : ℕ} {next : State} (g : Given m bs
     totals-30 h = not-read m bs 30 (rw (sound, sym equal-here ∙ h)) refl
 
     module _ (equal : all (totalsEqual (take a (next .accounts))) c ≡ true) where
-      -- well formed but for the room
+      -- the state in the areas lent for it
       abbrev here : Memory
       here = memory next (m .buys) (m .sells) (m .trades)
 
-      here-formed : wellFormedMemory here ≡ hasRoom (loadedInto m bs)
-      unfolding wellFormedMemory
-      here-formed =
-          ap (λ (n : State). wellFormedMemory (memory n (m .buys) (m .sells) (m .trades))) (g .next-is)
-          ∙ rw (loaded-counts m (g .declared) (loadedFrom bs) its-loadable, loaded-in-use m (g .declared) (loadedFrom bs) its-loadable, contents) (and-true (hasRoom (loadedInto m bs)))
+      here-room : hasRoom here ≡ hasRoom (loadedInto m bs)
+      here-room = ap (λ (n : State). hasRoom (memory n (m .buys) (m .sells) (m .trades))) (g .next-is)
 
-      pub room-29 : wellFormedMemory here ≡ false → ReadIs m bs 29 (m .state)
+      pub room-29 : hasRoom here ≡ false → ReadIs m bs 29 (m .state)
       unfolding readCode firstOf
-      room-29 h = not-read m bs 29 (rw (sound, sym equal-here ∙ equal, sym here-formed ∙ h)) refl
+      room-29 h = not-read m bs 29 (rw (sound, sym equal-here ∙ equal, sym here-room ∙ h)) refl
 
-      pub loaded-0 : wellFormedMemory here ≡ true → ReadIs m bs 0 next
+      pub loaded-0 : hasRoom here ≡ true → ReadIs m bs 0 next
       unfolding readCode firstOf
       loaded-0 h =
-          let k : readCode m bs ≡ 0 = rw (sound, sym equal-here ∙ equal, sym here-formed ∙ h) in
+          let k : readCode m bs ≡ 0 = rw (sound, sym equal-here ∙ equal, sym here-room ∙ h) in
           record { code-is = sym k; state-is = rw k (g .next-is) }

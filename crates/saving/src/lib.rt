@@ -4,6 +4,7 @@ ghost use mathlib.Core.Path.{_≡_};
 ghost use Rattle.rules.specs.Memory.{memory, wellFormedMemory};
 ghost use Rattle.saved.specs.Saved.{WrittenIs, ReadIs};
 ghost use Rattle.saving.specs.Parts.{inSpare};
+use audit::counts::has_room;
 use dayfile::head::contract_count;
 use rules::State;
 
@@ -87,8 +88,7 @@ pub fn read_state(file: &[u8], state: State, buys: &[u32], sells: &[u32], trades
     if !totals::all_equal(loaded_accounts, accounts, contracts) {
         return Loaded { code: 30, state };
     }
-    // well formed with room aside: what is missing is room
-    if !audit::well_formed(loaded, buys, sells, trades) {
+    if !has_room(loaded, buys, sells, trades) {
         return Loaded { code: 29, state };
     }
     Loaded {

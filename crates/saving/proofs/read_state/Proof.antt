@@ -2,34 +2,52 @@
 use mathlib.Core.Bool.{true}
 use mathlib.Core.Path.{_≡_}
 use Rattle.laws.specs.Tests.{passed, refused}
-use Rattle.rules.specs.Memory.{memory}
+use Rattle.rules.specs.Memory.{memory, wellFormedMemory}
 use Rattle.engine.proofs.Declared.{declared}
 use Rattle.saved.specs.Saved.{shaped}
-use Rattle.saving.specs.Parts.{Laid}
-use Rattle.saving.proofs.Loads.{Given, formed-20, loaded-0, marks-20, misshapen-20, room-29, totals-30}
+use Rattle.saving.specs.Parts.{Laid, inSpare}
+use Rattle.saving.proofs.Loads.{Given, counts-are, formed-20, loaded-0, marks-20, misshapen-20, room-29, totals-30}
 use Rattle.saving.proofs.Shapes.{count-ready, shaped-laid, shaped-long}
 use borrow.Author.Needs.{needs}
 use Rattle.saving.proofs.read_state.Statement.{statement}
 use Rattle.saving.proofs.read_state.Tie as tie
 
-shape-is : (c : tie.Else1) → shaped (c .before .before .before .before .before .before .args .file .now) ≡ true
+-- from the test of the shape back to the start
+abbrev Lent : tie.After-is-shaped → tie.After-shared-slice-known
+Lent c = c .before .before .before .before
+
+abbrev Begun : tie.Else1 → tie.Start
+Begun c = Lent (c .before) .before
+
+-- from the state that the file gives back to the counts of the file, and from the equal totals to that state
+abbrev Counted : tie.After-loaded-state → tie.After-account-count
+Counted c = c .before .before .before
+
+abbrev Formed : tie.Else4 → tie.Else3
+Formed c = c .before .before .before
+
+shape-is : (c : tie.Else1) → shaped (Begun c .args .file .now) ≡ true
 shape-is c = passed (c .before .is-shaped .ensures) (c .if1 .left)
 
-laid : (c : tie.After-account-count) → Laid (c .before .before .before .before .before .before .before .before .args .file .now) (c .before .contract-count .result) (c .account-count .result)
+laid : (c : tie.After-account-count) → Laid (Begun (c .before .before) .args .file .now) (c .before .contract-count .result) (c .account-count .result)
 laid c = shaped-laid _ _ _ (c .before .contract-count .ensures) (c .account-count .ensures) (shape-is (c .before .before))
 
 -- the state that the file gives
 given : (c : tie.After-loaded-state)
-    → let a = c .before .before .before .before .before .before .before .before .before .before .before .args in
-    Given (memory (a .state) (a .buys .now) (a .sells .now) (a .trades .now)) (a .file .now) (c .before .before .before .before .contract-count .result) (c .before .before .before .account-count .result) (c .loaded-state .result)
+    → let a = Begun (Counted c .before .before) .args in
+    Given (memory (a .state) (a .buys .now) (a .sells .now) (a .trades .now)) (a .file .now)
+    (Counted c .before .contract-count .result) (Counted c .account-count .result) (c .loaded-state .result)
 given c =
     record {
-      shape-is = shape-is (c .before .before .before .before .before);
-      laid = laid (c .before .before .before);
-      declared = declared (c .before .before .before .before .before .before .before .before .before .before .before .good .1 .0);
+      shape-is = shape-is (Counted c .before .before);
+      laid = laid (Counted c);
+      declared = declared (Begun (Counted c .before .before) .good .1 .0);
       marks = passed (c .before .before .marks-sound .ensures) (c .before .if2 .left);
       next-is = c .loaded-state .ensures;
     }
+
+formed-is : (c : tie.Else3) → wellFormedMemory (inSpare (c .before .before .loaded-state .result)) ≡ true
+formed-is c = passed (c .before .is-formed .ensures) (c .if3 .left)
 
 is-shaped-requires : tie.Need-is-shaped-requires
 is-shaped-requires c κs = search needs
@@ -47,7 +65,9 @@ marks-sound-requires : tie.Need-marks-sound-requires
 marks-sound-requires c κs = laid c
 
 returns-2 : tie.Need-returns-2
-returns-2 c = marks-20 _ _ (shape-is (c .before .before .before .before)) (laid (c .before .before)) (refused (c .before .marks-sound .ensures) (c .if2 .taken))
+returns-2 c =
+    let counted = c .before .before in
+    marks-20 _ _ (shape-is (counted .before .before)) (laid counted) (refused (c .before .marks-sound .ensures) (c .if2 .taken))
 
 loaded-state-requires : tie.Need-loaded-state-requires
 loaded-state-requires c κs = laid (c .before .before)
@@ -59,24 +79,27 @@ returns-3 : tie.Need-returns-3
 returns-3 c = formed-20 (given (c .before .before)) (refused (c .before .is-formed .ensures) (c .if3 .taken))
 
 all-equal-requires : tie.Need-all-equal-requires
-all-equal-requires c κs = let l = laid (c .before .before .before .before .before .before) in (l .few-accounts, l .few-contracts)
+all-equal-requires c κs = let l = laid (Counted (c .before .before .before)) in (l .few-accounts, l .few-contracts)
 
 returns-4 : tie.Need-returns-4
 returns-4 c =
-    totals-30 (given (c .before .before .before .before .before)) (passed (c .before .before .before .before .is-formed .ensures) (c .before .before .before .if3 .left)) (refused (c .before .all-equal .ensures) (c .if4 .taken))
+    let formed = c .before .before .before in
+    totals-30 (given (formed .before .before)) (formed-is formed) (refused (c .before .all-equal .ensures) (c .if4 .taken))
 
-well-formed-requires : tie.Need-well-formed-requires
-well-formed-requires c κs = search needs
+has-room-requires : tie.Need-has-room-requires
+has-room-requires c κs = counts-are (given (Formed c .before .before))
 
 returns-5 : tie.Need-returns-5
 returns-5 c =
-    room-29 (given (c .before .before .before .before .before .before .before)) (passed (c .before .before .before .before .before .before .is-formed .ensures) (c .before .before .before .before .before .if3 .left)) (passed (c .before .before .before .all-equal .ensures) (c .before .before .if4 .left))
-    (refused (c .before .well-formed .ensures) (c .if5 .taken))
+    let equal = c .before .before in
+    room-29 (given (Formed equal .before .before)) (formed-is (Formed equal)) (passed (equal .before .all-equal .ensures) (equal .if4 .left))
+    (refused (c .before .has-room .ensures) (c .if5 .taken))
 
 returns-6 : tie.Need-returns-6
 returns-6 c =
-    loaded-0 (given (c .before .before .before .before .before .before .before)) (passed (c .before .before .before .before .before .before .is-formed .ensures) (c .before .before .before .before .before .if3 .left)) (passed (c .before .before .before .all-equal .ensures) (c .before .before .if4 .left))
-    (passed (c .before .well-formed .ensures) (c .if5 .left))
+    let equal = c .before .before in
+    loaded-0 (given (Formed equal .before .before)) (formed-is (Formed equal)) (passed (equal .before .all-equal .ensures) (equal .if4 .left))
+    (passed (c .before .has-room .ensures) (c .if5 .left))
 
 pub read-state-spec : {M : Type 1} → statement M
 read-state-spec =
@@ -93,6 +116,6 @@ read-state-spec =
     returns-3
     all-equal-requires
     returns-4
-    well-formed-requires
+    has-room-requires
     returns-5
     returns-6)
