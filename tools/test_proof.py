@@ -14,7 +14,7 @@ import time
 import unittest
 from pathlib import Path
 
-from proofs import goals, lengths, scaffold, shorten
+from proofs import blanks, goals, layout, lengths, naming, places, scaffold, shorten, syntax
 
 TOOL = Path(__file__).resolve().parent / "proof"
 
@@ -39,12 +39,16 @@ tail -n +2 "$kit/said"
 exit "$(cat "$kit/status")"
 """
 
-# Refuses each answer `search refused`, by the answer's name.
+# Refuses each answer `search refused` or `refused _`, by the answer's name. With --generated it makes the folder `made`.
 JUDGE = """#!/bin/sh
 kit={kit}
 echo "$*" >>"$kit/calls"
+while [ $# -gt 0 ]; do
+    [ "$1" != --generated ] || cp -R "$kit/made/." "$2"
+    shift
+done
 [ ! -e "$kit/slow" ] || {{ touch "$kit/began"; sleep 60; }}
-grep -rn 'search refused' "$PWD/crates/tiny/proofs" >"$kit/refused" || {{ echo logic=proved; exit 0; }}
+grep -rn 'search refused\\|refused _' "$PWD/crates/tiny/proofs" >"$kit/refused" || {{ echo logic=proved; exit 0; }}
 sed 's/^\\([^:]*:[0-9]*\\):\\([^ ]*\\) .*/\\1:5: error: `\\2`: `search`: no proof/' "$kit/refused"
 echo logic=not-proved
 exit 1
@@ -584,7 +588,212 @@ class Shorten(ProofTest):
         self.assertEqual(shorten.inlined(text), text)
 
 
+def long_lts(*names):
+    """The records of a function that passes places in a row, those of a call by its name and the others as After-x-known."""
+    text, last = "      pub record Start : Type 0 where\n        pub args : Args\n        pub pre : Pre args\n", "Start"
+    for name in names:
+        place = name if name[0].isupper() else f"After-{name}"
+        own = f"        {place}·own = Called.Called r\n" if "known" not in name and place != name else ""
+        text += f"{own}      pub record {place} : Type 0 where\n        pub before : {last}\n        pub {name.lower()} : {place}·own before\n"
+        last = place
+    return text + "".join(f"      Need-{need} = (c : {at}) → Fits\n" for need, at in (("near", "After-first"), ("far", last), ("returns", last)))
+
+
+PLACES_IN_A_ROW = ("a-known", "first", "b-known", "c-known", "d-known", "e-known", "Else1", "f-known", "second", "g-known")
+
+# The let of the call `first` is `bought`, that of `second` has one letter.
+PICK = """pub fn pick(n: u32) -> u32
+{
+    let bought = deals::first(n);
+    if bought > 1 {
+        return 0;
+    }
+    let s = second(bought);
+    s
+}
+"""
+
+
+def back(count):
+    return " .before" * count
+
+
+FAR = f"""-- `tiny::pick` meets its contract. Assumes nothing.
+use borrow.Author.Needs.{{needs}}
+use Rattle.tiny.proofs.pick.Tie as tie
+
+near : tie.Need-near
+near c = ap f (law (c{back(2)} .pre))
+
+far : tie.Need-far
+far c κs =
+    let start = c{back(10)} in
+    ap f (both (start .args .n) (start .pre) (c{back(8)} .first .ensures) (c{back(8)} .first .result))
+
+returns : tie.Need-returns
+returns c = ap g (other (c{back(10)} .args .n) (c .before .second .ensures) (c{back(8)} .first .ensures))
+
+pub pick-spec : {{M : Type 1}} → statement M
+pick-spec =
+    tie.close
+    (tie.spec
+    near
+    far
+    returns)
+"""
+
+NAMED = """-- `tiny::pick` meets its contract. Assumes nothing.
+use borrow.Author.Needs.{needs}
+use Rattle.tiny.proofs.pick.Tie as tie
+
+-- back to the call whose answer is `bought`
+abbrev Bought : tie.After-g-known → tie.After-first
+Bought c = c .before .before .before .before .before .before .before .before
+
+pub pick-spec : {M : Type 1} → statement M
+pick-spec =
+    tie.close
+    (tie.spec
+    (λ c. ap f (law (c .before .before .pre)))  -- near
+    (λ c κs. let start = Bought c .before .before in ap f (both _ (start .pre) (Bought c .first .ensures) _))  -- far
+    (λ c. ap g (other _ (c .before .second .ensures) (Bought c .first .ensures))))  -- returns
+"""
+
+
+class Name(ProofTest):
+    PATH = "crates/tiny/proofs/pick/Proof.antt"
+
+    def setUp(self):
+        super().setUp()
+        self.stand_in(JUDGE)
+        self.write("crates/tiny/src/lib.rt", PICK)
+        self.make("pick", long_lts(*PLACES_IN_A_ROW))
+        self.write(self.PATH, FAR)
+
+    def named(self, text, source=PICK):
+        return naming.named(text, places.read(long_lts(*PLACES_IN_A_ROW)), source)
+
+    def test_ways_go_by_names_arguments_are_left_out_and_answers_stand_in_a_line(self):
+        output, _ = self.proof("name", "tiny")
+        self.assertEqual(self.text(self.PATH), NAMED)
+        self.assertEqual(output, "tiny: proved; lines 22 to 15, ways too long 5 to 0, lines too long 2 to 0\n")
+
+    def test_what_is_refused_is_put_back(self):
+        self.write(self.PATH, FAR.replace("other (", "refused ("))
+        self.proof("name", "tiny")
+        self.assertEqual(
+            self.text(self.PATH),
+            NAMED.replace("other _", "refused (Bought c .before .before .args .n)"),
+        )
+
+    def test_a_crate_that_is_not_proved_stays(self):
+        text = FAR.replace("near c = ap f (law (c .before .before .pre))", "near c = search refused")
+        self.write(self.PATH, text)
+        self.assertIn("tiny is not proved: nothing is changed", self.proof("name", "tiny", status=2)[1])
+        self.assertEqual(self.text(self.PATH), text)
+
+    def test_one_function(self):
+        self.make("other", long_lts(*PLACES_IN_A_ROW))
+        self.write("crates/tiny/proofs/other/Proof.antt", FAR)
+        self.proof("name", "tiny", "--function", "pick")
+        self.assertEqual(self.text(self.PATH), NAMED)
+        self.assertEqual(self.text("crates/tiny/proofs/other/Proof.antt"), FAR)
+        self.assertIn("there is no crates/tiny/proofs/none/Proof.antt", self.proof("name", "tiny", "--function", "none", status=2)[1])
+
+    def test_a_run_that_is_ended_leaves_the_crate_as_it_was(self):
+        self.stand_in(JUDGE.replace('[ ! -e "$kit/slow" ]', f"! grep -q Bought {self.PATH}"))
+        started = self.start("name", "tiny")
+        self.wait_for(self.kit / "began")
+        started.send_signal(signal.SIGTERM)
+        started.communicate(timeout=60)
+        self.assertEqual(self.text(self.PATH), FAR)
+
+    def test_names_that_are_there_are_used(self):
+        text = FAR.replace("near :", f"-- back\nabbrev Sold : tie.After-g-known → tie.After-first\nSold d = d{back(8)}\n\nnear :")
+        named = self.named(text)
+        self.assertIn("(Sold c .first .ensures)", named)
+        self.assertNotIn("Bought", named)
+        self.assertIn(f"Sold d = d{back(8)}\n", named)
+
+    def test_a_law_of_its_own_and_a_loop(self):
+        text = f"abbrev Inv-x : tie.InvT-x\nInv-x n = n\n\nknown : (c : tie.After-second Inv-x μ-x) → c{back(7)} .first .ensures\nknown c = law (c{back(7)})\n\n"
+        text += "far : tie.Need-far Inv-x μ-x\nfar c = known (c .before)\n"
+        named = self.named(text)
+        self.assertIn("abbrev Bought : tie.After-second Inv-x μ-x → tie.After-first Inv-x μ-x\n", named)
+        self.assertIn("known : (c : tie.After-second Inv-x μ-x) → Bought c .first .ensures\nknown c = law (Bought c)\n", named)
+        self.assertLess(named.index("Inv-x n = n"), named.index("abbrev Bought"))
+
+    def test_a_path_that_is_no_place_stays(self):
+        for body in (f"law (f c{back(6)} .pre)", f"law (other{back(6)} .pre)", f"⊎-elim (λ c. c{back(6)}) x"):
+            text = f"far : tie.Need-far\nfar c = {body}\n"
+            self.assertEqual(self.named(text), text)
+
+    def test_a_test_is_named_by_what_it_reads(self):
+        lts = long_lts("first", "Else1", "b-known", "c-known", "d-known", "e-known", "f-known")
+        text = f"far : tie.Need-far\nfar c = law (c{back(5)} .else1 .left)\n"
+        named = naming.named(text, places.read(lts), PICK)
+        self.assertIn("-- back to the test `bought > 1`\nabbrev Past-bought : tie.After-f-known → tie.Else1\n", named)
+        self.assertIn("far c = law (Past-bought c .else1 .left)\n", named)
+        # Where the conditions are not as many as the tests, none of them is known to be the one.
+        named = naming.named(text, places.read(lts), PICK.replace("bought > 1", "bought > 1 || n == 0"))
+        self.assertIn("-- back to the test `else1`\nabbrev Past-if1 : ", named)
+
+    def test_a_name_without_a_let_is_the_callees_and_taken_names_are_not_given(self):
+        self.assertIn("abbrev First : ", self.named(FAR, ""))
+        self.assertIn("-- back to the call of `first`\n", self.named(FAR, ""))
+        self.assertNotIn("abbrev Bought : ", self.named(FAR.replace("{needs}", "{needs, Bought}")))
+
+
+class Blanks(unittest.TestCase):
+    def test_data_are_tried_and_facts_are_not(self):
+        text = "x : A\nx c = law (c .args .n) (c .pre) (now (c .before .args .a)) (c .before) (λ y. c .args .n) (omega arith) (c .f .ensures .0)\n"
+        self.assertEqual(blanks.counted(text), {"x": 2})
+        self.assertIn("law _ (c .pre) (now (c .before .args .a)) (c .before)", blanks.blanked(text, {"x": {0}}))
+        self.assertIn("law _ (c .pre) _ (c .before)", blanks.blanked(text, {"x": {0, 1}}))
+
+
+    def test_what_was_not_determined_is_told_by_its_place(self):
+        old = "x : A\nx c = law _ (c .args .n) (c .pre) (c .args .m)\n"
+        now = "x : A\nx c =\n    law _ _ (c .pre)\n    _\n"
+        self.assertEqual(blanks.undetermined(old, now, "x", {0, 1}, [(3, 11), (3, 9)]), {0})
+        self.assertEqual(blanks.undetermined(old, now, "x", {0, 1}, [(4, 5)]), {1})
+        self.assertEqual(blanks.undetermined(old, now, "y", {0, 1}, [(4, 5)]), set())
+
+
+class Imports(unittest.TestCase):
+    def test_what_is_cited_no_more_is_not_imported(self):
+        uses = "use A.B.{_∙_, law, _≡_}\nuse C.{other}\nuse D.{idle}\nuse E as tie\n"
+        old, new = uses + "x : a ≡ b\nx = law ∙ other\n", uses + "x : a ≡ b\nx = search law\n"
+        self.assertEqual(syntax.without_idle_imports(old, new), "use A.B.{law, _≡_}\nuse D.{idle}\nuse E as tie\nx : a ≡ b\nx = search law\n")
+
+
+class Layout(unittest.TestCase):
+    def test_a_line_is_broken_between_arguments(self):
+        text = "x c = law " + " ".join(f"(argument-{number} (c .before .pre))" for number in range(10)) + "\n"
+        broken = layout.broken(text)
+        self.assertTrue(broken.startswith("x c =\n    law (argument-0 "), broken)
+        self.assertEqual(" ".join(broken.split()), " ".join(text.split()))
+        self.assertLess(max(map(len, broken.split("\n"))), 200)
+        self.assertTrue(all(line.startswith("    (argument-") for line in broken.rstrip().split("\n")[2:]))
+
+    def test_imports_and_comments(self):
+        names = [f"law-{number}" for number in range(40)]
+        broken = layout.broken(f"use Rattle.a.proofs.B.{{{', '.join(names)}}}\n-- {'word ' * 60}end\n").split("\n")
+        self.assertLess(max(map(len, broken)), 200)
+        imported = [name for line in broken if line.startswith("use Rattle.a.proofs.B.{") for name in line[23:-1].split(", ")]
+        self.assertEqual(imported, names)
+        self.assertTrue(all(line.startswith(("use ", "-- ")) for line in broken[:-1]))
+
+    def test_short_lines_stay(self):
+        text = "x c = law (c .pre)\n" + "y" * 200 + "\n"
+        self.assertEqual(layout.broken(text), text)
+
+
 class Lengths(ProofTest):
+    def test_the_way_of_a_name_is_not_counted(self):
+        text = f"abbrev Begun : tie.After-x Inv μ → tie.Start Inv μ\nBegun c = c{back(9)}\n\nabbrev n : ℕ\nn = c{back(5)}\n"
+        self.assertEqual(lengths.runs(text), [(5, 5)])
+
     def test_what_is_counted(self):
         far = "far c = law (c" + " .before" * 3 + "\n   " + " .before" * 3 + " .pre) (c .before .before)\n"
         self.write("crates/tiny/proofs/a/b/Proof.antt", far + "x" * 201 + "\n" + "y" * 200 + "\n")
@@ -601,13 +810,37 @@ class Lengths(ProofTest):
         self.assertEqual(self.calls(), [])
 
 
+class Aims(unittest.TestCase):
+    """What the function proofs of this repository keep to."""
+
+    ROOT = TOOL.parents[1]
+    # Crates that still have answers by long ways or long lines; a crate that has none leaves the list.
+    NOT_YET = """
+        auction audit baskets bench_book bench_exchange bench_execute book changing clients dayprofit endian
+        engine exchange exports insertion margin matching opening query quoting refusals replaying runner
+        saving settlement statements test_book test_bytes
+        """.split()
+    MOST_LINES = 22100
+
+    def test_no_answer_counts_its_way_back_and_no_line_is_too_long(self):
+        for crate in lengths.of_all(self.ROOT):
+            faults = [f"{fault.path}:{fault.line}: {fault.what}" for fault in lengths.faults(self.ROOT, crate)]
+            if crate in self.NOT_YET:
+                self.assertNotEqual(faults, [], f"{crate} keeps to it now")
+            else:
+                self.assertEqual(faults, [])
+
+    def test_function_proofs_are_short(self):
+        self.assertLessEqual(lengths.total(lengths.of_all(self.ROOT)).function_lines, self.MOST_LINES)
+
+
 class Help(ProofTest):
     def test_every_example_is_a_call(self):
         loader = importlib.machinery.SourceFileLoader("proof_command", str(TOOL))
         spec = importlib.util.spec_from_loader("proof_command", loader)
         command = importlib.util.module_from_spec(spec)
         loader.exec_module(command)
-        for name in ("goals", "scaffold", "places", "shorten", "lengths"):
+        for name in ("goals", "scaffold", "places", "shorten", "name", "lengths"):
             text, _ = self.proof(name, "--help")
             examples = re.findall(r"(?m)^    tools/proof ([^#|\n]*)", text)
             self.assertIn(name, " ".join(examples))

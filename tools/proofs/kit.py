@@ -63,6 +63,11 @@ def dev_lines(root, crate, *words):
         return process.wait(), lines
 
 
+def formatted(root):
+    """Has the kit lay out every proof file."""
+    subprocess.run(["rt", "fmt"], cwd=root, stdin=subprocess.DEVNULL, stdout=subprocess.DEVNULL, stderr=subprocess.DEVNULL, check=False)
+
+
 def progress(words):
     """What is going on, beside what is told."""
     print(words, file=sys.stderr, flush=True)

@@ -1,6 +1,7 @@
 """How long the proofs are, and how far their answers reach back: what function proofs and law files are held to.
 
-A function proof is a file Proof.antt; every other file of proofs/ is a law file."""
+A function proof is a file Proof.antt; every other file of proofs/ is a law file. An `abbrev` that names a place, from one of the
+function's places to an earlier one, may reach as far back as it has to: that is what it is for."""
 
 import re
 from typing import NamedTuple
@@ -11,6 +12,7 @@ from proofs import kit
 MOST_BEFORE = 4
 MOST_CHARACTERS = 200
 
+PLACE_NAME = re.compile(r"(?m)^abbrev (\S+) : tie\.[^→\n]+→ tie\.[^→\n]+$")
 RUN = re.compile(r"\.before(?:\s+\.before)*(?![\w′-])")
 
 
@@ -46,8 +48,17 @@ def files(root, crate):
     return [path for path in paths if path.name == "Proof.antt"], [path for path in paths if path.name != "Proof.antt"]
 
 
+def answers_only(text):
+    """A proof without the ways of the names for places; its lines keep their numbers."""
+    for name in PLACE_NAME.findall(text):
+        clause = re.compile(rf"(?m)^{re.escape(name)} \S+ =.*(?:\n +.*)*")
+        text = clause.sub(lambda match: "\n" * match.group().count("\n"), text)
+    return text
+
+
 def runs(text):
-    """Each run of `.before`: its line and how many."""
+    """Each run of `.before` in answers and laws: its line and how many."""
+    text = answers_only(text)
     return [(text.count("\n", 0, run.start()) + 1, run.group().count(".before")) for run in RUN.finditer(text)]
 
 

@@ -10,12 +10,14 @@ from typing import NamedTuple
 from proofs import kit
 
 HEAD = re.compile(r"^([a-z][\w′-]*) : tie\.(Need-[\w-]+)")
-ERROR = re.compile(r"^(crates/\S+/Proof\.antt):\d+:\d+: error: `([^`]+)`")
+ERROR = re.compile(r"^(crates/\S+/Proof\.antt):(\d+):(\d+): (?:error:|unsolved \?\d+ in) `([^`]+)`")
+UNSOLVED = re.compile(r"\S+ unsolved ")
 # Said of a caller whose callee is refused.
 FOLLOWS = "was not admitted"
 TRIVIAL = re.compile(r"^((?: c)?(?: κs)?) = (search [a-z][\w′-]*|omega arith)$")
 LEFT = re.compile(r"^((?: c)?(?: κs)?) = ?(.*)$")
 LAW = re.compile(r"^([a-zA-Z][\w′-]*)(?: |$)")
+BEHIND = re.compile(r"\)  -- (\S+)$")
 ONE_LINE_SPEC = re.compile(r"(?m)^([\w′-]+-spec) = tie\.close \(tie\.spec ([\w′ -]+)\)$")
 
 # Words that an answer may begin with and that name no law.
@@ -99,15 +101,26 @@ def uses(name, text):
     return len(re.findall(rf"(?<![\w′-]){re.escape(name)}(?![\w′-])", text.replace(f"Need-{name}", "")))
 
 
-def inlined(text):
-    """A proof with its plain answers in `tie.spec`; as it was where that is laid out otherwise, or would make it longer."""
+def moved_as(answer, width):
+    """What stands for an answer in `tie.spec`; nothing where it stays where it is."""
+    said = after_name(answer)
+    plain, left = TRIVIAL.match(said), LEFT.match(said)
+    if answer.unfolds or not left or not left.group(2) or "--" in said or " where " in said or said.count("let ") > 1:
+        return None
+    moved = f"(λ{left.group(1) or ' c'}. {left.group(2)})"
+    return moved if plain or len(f"    {moved}  -- {answer.name}") <= width else None
+
+
+def inlined(text, width=0, but=()):
+    """A proof with its plain answers in `tie.spec`, and those that fit in a line of `width`, but some; as it was where that is laid
+    out otherwise, or would make it longer."""
     lines, moved = spread(text).split("\n"), {}
     for answer in reversed(answers(lines)):
-        plain = TRIVIAL.match(after_name(answer))
-        # Its type, its answer, its place in tie.spec: what is used elsewhere too keeps its name.
-        if answer.unfolds or not plain or uses(answer.name, text) != 3:
+        said = moved_as(answer, width)
+        # Its type, its answer, its place in tie.spec: what is used elsewhere too keeps its name, and so does what has a comment.
+        if not said or answer.name in but or uses(answer.name, text) != 3 or lines[answer.first - 1].startswith("--"):
             continue
-        moved[answer.name] = f"(λ{plain.group(1) or ' c'}. {plain.group(2)})"
+        moved[answer.name] = said
         has_gap = answer.past < len(lines) and not lines[answer.past]
         del lines[answer.first : answer.past + has_gap]
     shorter = "\n".join(lines)
@@ -135,6 +148,7 @@ class Crate:
         files = sorted((kit.crate_folder(root, name) / "proofs").rglob("Proof.antt"))
         self.old = {path.relative_to(root).as_posix(): path.read_text(encoding="utf-8") for path in files}
         self.now = dict(self.old)
+        self.unsolved = {}  # of the last check, by file and definition: the lines and columns of each `_` that was not determined
 
     def put(self, texts):
         """Has these proofs stand in the files."""
@@ -143,15 +157,24 @@ class Crate:
                 self.now[path] = text
                 (self.root / path).write_text(text, encoding="utf-8")
 
+    def formatted(self):
+        """Has the kit lay out what stands in the files."""
+        kit.formatted(self.root)
+        self.now = {path: (self.root / path).read_text(encoding="utf-8") for path in self.old}
+
     def check(self):
-        """Whether the crate is proved, and the names that are refused by file."""
+        """Whether the crate is proved, and the names that are refused by file; an answer in `tie.spec` by the comment behind it."""
         status, lines = kit.dev_lines(self.root, self.name)
-        refused, follows = {}, {}
+        refused, follows, self.unsolved = {}, {}, {}
         for line in lines:
             error = ERROR.match(line)
             if error and error.group(1) in self.old:
+                path, row, column, name = error.groups()
                 kind = follows if FOLLOWS in line else refused
-                kind.setdefault(error.group(1), set()).add(error.group(2))
+                behind = BEHIND.search(self.now[path].split("\n")[int(row) - 1])
+                kind.setdefault(path, set()).add(behind.group(1) if behind else name)
+                if UNSOLVED.match(line):
+                    self.unsolved.setdefault((path, name), []).append((int(row), int(column)))
         return status == 0, refused or follows
 
 

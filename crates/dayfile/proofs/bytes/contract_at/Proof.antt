@@ -5,51 +5,6 @@ use Rattle.rules.specs.DayFile.{contractFrom}
 use Rattle.dayfile.proofs.bytes.contract_at.Statement.{statement}
 use Rattle.dayfile.proofs.bytes.contract_at.Tie as tie
 
-u16-at-requires : tie.Need-u16-at-requires
-u16-at-requires c κs = search needs
-
-cast-multiplier : tie.Need-cast-multiplier
-cast-multiplier c = search needs
-
-add-u16-at : tie.Need-add-u16-at
-add-u16-at c = search needs
-
-u16-at-requires-2 : tie.Need-u16-at-requires-2
-u16-at-requires-2 c κs = search needs
-
-cast-tick : tie.Need-cast-tick
-cast-tick c = search needs
-
-add-u32-at : tie.Need-add-u32-at
-add-u32-at c = search needs
-
-u32-at-requires : tie.Need-u32-at-requires
-u32-at-requires c κs = search needs
-
-add-u32-at-2 : tie.Need-add-u32-at-2
-add-u32-at-2 c = search needs
-
-u32-at-requires-2 : tie.Need-u32-at-requires-2
-u32-at-requires-2 c κs = search needs
-
-add-u32-at-3 : tie.Need-add-u32-at-3
-add-u32-at-3 c = search needs
-
-u32-at-requires-3 : tie.Need-u32-at-requires-3
-u32-at-requires-3 c κs = search needs
-
-add-u16-at-2 : tie.Need-add-u16-at-2
-add-u16-at-2 c = search needs
-
-u16-at-requires-3 : tie.Need-u16-at-requires-3
-u16-at-requires-3 c κs = search needs
-
-add-u16-at-3 : tie.Need-add-u16-at-3
-add-u16-at-3 c = search needs
-
-u16-at-requires-4 : tie.Need-u16-at-requires-4
-u16-at-requires-4 c κs = search needs
-
 returns : tie.Need-returns
 unfolding contractFrom
 returns c =
@@ -69,19 +24,19 @@ pub contract-at-spec : {M : Type 1} → statement M
 contract-at-spec =
     tie.close
     (tie.spec
-    u16-at-requires
-    cast-multiplier
-    add-u16-at
-    u16-at-requires-2
-    cast-tick
-    add-u32-at
-    u32-at-requires
-    add-u32-at-2
-    u32-at-requires-2
-    add-u32-at-3
-    u32-at-requires-3
-    add-u16-at-2
-    u16-at-requires-3
-    add-u16-at-3
-    u16-at-requires-4
+    (λ c κs. search needs)  -- u16-at-requires
+    (λ c. search needs)  -- cast-multiplier
+    (λ c. search needs)  -- add-u16-at
+    (λ c κs. search needs)  -- u16-at-requires-2
+    (λ c. search needs)  -- cast-tick
+    (λ c. search needs)  -- add-u32-at
+    (λ c κs. search needs)  -- u32-at-requires
+    (λ c. search needs)  -- add-u32-at-2
+    (λ c κs. search needs)  -- u32-at-requires-2
+    (λ c. search needs)  -- add-u32-at-3
+    (λ c κs. search needs)  -- u32-at-requires-3
+    (λ c. search needs)  -- add-u16-at-2
+    (λ c κs. search needs)  -- u16-at-requires-3
+    (λ c. search needs)  -- add-u16-at-3
+    (λ c κs. search needs)  -- u16-at-requires-4
     returns)

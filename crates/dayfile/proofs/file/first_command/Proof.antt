@@ -4,11 +4,9 @@ use borrow.Author.Needs.{needs}
 use Rattle.dayfile.proofs.file.first_command.Statement.{statement}
 use Rattle.dayfile.proofs.file.first_command.Tie as tie
 
-head-end-requires : tie.Need-head-end-requires
-head-end-requires c κs = sound-whole _ (c .before .pre)
-
-returns : tie.Need-returns
-returns c = search needs
-
 pub first-command-spec : {M : Type 1} → statement M
-first-command-spec = tie.close (tie.spec head-end-requires returns)
+first-command-spec =
+    tie.close
+    (tie.spec
+    (λ c κs. search sound-whole)  -- head-end-requires
+    (λ c. search needs))  -- returns

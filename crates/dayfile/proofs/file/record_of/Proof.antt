@@ -11,19 +11,19 @@ add-record-at : tie.Need-add-record-at
 add-record-at c =
     let s = c .before in
     let f = s .args .file .now in
-    let w = command-within f (s .pre .0) (s .args .k) (s .pre .2) in
-    omega (arith, command-from f (s .args .first) (s .args .k) (s .pre .1))
+    let w = command-within f (s .pre .0) _ (s .pre .2) in
+    omega (arith, command-from f _ (s .args .k) (s .pre .1))
 
 record-at-requires : tie.Need-record-at-requires
 record-at-requires c κs =
     let s = c .before in
     let f = s .args .file .now in
-    omega (arith, command-within f (s .pre .0) (s .args .k) (s .pre .2), command-from f (s .args .first) (s .args .k) (s .pre .1))
+    omega (arith, command-within f (s .pre .0) _ (s .pre .2), command-from f _ (s .args .k) (s .pre .1))
 
 returns : tie.Need-returns
 returns c =
     let s = c .before .before in
-    rw (← command-from (s .args .file .now) (s .args .first) (s .args .k) (s .pre .1)) (c .record-at .ensures)
+    rw (← command-from _ _ _ (s .pre .1)) (c .record-at .ensures)
 
 pub record-of-spec : {M : Type 1} → statement M
 record-of-spec = tie.close (tie.spec mul-record-at add-record-at record-at-requires returns)

@@ -9,31 +9,14 @@ use borrow.Author.Needs.{needs}
 use Rattle.dayfile.proofs.file.sound.Statement.{statement}
 use Rattle.dayfile.proofs.file.sound.Tie as tie
 
-head-sound-requires : tie.Need-head-sound-requires
-head-sound-requires c κs = search needs
-
-returns : tie.Need-returns
-returns c =
-    let t = c .before .head-sound in
-    rw (sound-is (c .before .before .before .args .file .now), ← t .ensures, not-true (t .result) (c .if1 .taken))
-
 has-sound-head : (c : tie.Else1) → headSound (c .before .before .before .args .file .now) ≡ true
-has-sound-head c = sym (c .before .head-sound .ensures) ∙ not-false (c .before .head-sound .result) (c .if1 .left)
-
-command-count-requires : tie.Need-command-count-requires
-command-count-requires c κs = has-sound-head c
+has-sound-head c = sym (c .before .head-sound .ensures) ∙ not-false _ (c .if1 .left)
 
 returns-2 : tie.Need-returns-2
 returns-2 c =
     let b = c .before .before in
     let f = b .before .before .before .args .file .now in
     rw (sound-is f, has-sound-head b, ← c .before .command-count .ensures, lt-leb _ _ (c .if2 .taken))
-
-head-end-requires : tie.Need-head-end-requires
-head-end-requires c κs = has-sound-head (c .before .before)
-
-mul-result : tie.Need-mul-result
-mul-result c = search needs
 
 add-result : tie.Need-add-result
 add-result c =
@@ -51,11 +34,11 @@ pub sound-spec : {M : Type 1} → statement M
 sound-spec =
     tie.close
     (tie.spec
-    head-sound-requires
-    returns
-    command-count-requires
+    (λ c κs. search needs)  -- head-sound-requires
+    (λ c. let t = c .before .head-sound in rw (sound-is _, ← t .ensures, not-true (t .result) (c .if1 .taken)))  -- returns
+    (λ c κs. has-sound-head c)  -- command-count-requires
     returns-2
-    head-end-requires
-    mul-result
+    (λ c κs. search has-sound-head)  -- head-end-requires
+    (λ c. search needs)  -- mul-result
     add-result
     returns-3)

@@ -16,29 +16,11 @@ Inv-loop file start accounts a₀ a = (a ≤ accounts) × (all (accountSound fil
 abbrev μ-loop : tie.MeasureT-loop
 μ-loop file start accounts a₀ a = accounts - a
 
-loop-holds : tie.Need-loop-holds Inv-loop μ-loop
-loop-holds c = (omega arith, all-none _)
-
-mul-balance-at : tie.Need-mul-balance-at Inv-loop μ-loop
-mul-balance-at c = omega arith
-
-add-balance-at : tie.Need-add-balance-at Inv-loop μ-loop
-add-balance-at c = omega arith
-
-balance-at-requires : tie.Need-balance-at-requires Inv-loop μ-loop
-balance-at-requires c κs = omega arith
-
 returns : tie.Need-returns Inv-loop μ-loop
 returns c =
     let b = c .before .before in
     let e = c .before .balance-at .ensures ∙ sym (balance-read _ _ _ (b .before .before .before .pre .1)) in
     sym (all-stop _ _ _ (b .loop-test .taken) (account-fails _ _ _ e (c .if1 .taken)))
-
-add-a : tie.Need-add-a Inv-loop μ-loop
-add-a c = omega arith
-
-loop-less : tie.Need-loop-less Inv-loop μ-loop
-loop-less c = omega arith
 
 loop-again : tie.Need-loop-again Inv-loop μ-loop
 loop-again c =
@@ -57,12 +39,12 @@ accounts-sound-spec =
     (tie.spec
     Inv-loop
     μ-loop
-    loop-holds
-    mul-balance-at
-    add-balance-at
-    balance-at-requires
+    (λ c. (omega arith, all-none _))  -- loop-holds
+    (λ c. omega arith)  -- mul-balance-at
+    (λ c. omega arith)  -- add-balance-at
+    (λ c κs. omega arith)  -- balance-at-requires
     returns
-    add-a
-    loop-less
+    (λ c. omega arith)  -- add-a
+    (λ c. omega arith)  -- loop-less
     loop-again
     returns-2)

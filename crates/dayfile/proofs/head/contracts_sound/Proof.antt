@@ -16,9 +16,6 @@ Inv-loop file contracts c₀ c = (c ≤ contracts) × (all (contractSound file) 
 abbrev μ-loop : tie.MeasureT-loop
 μ-loop file contracts c₀ c = contracts - c
 
-loop-holds : tie.Need-loop-holds Inv-loop μ-loop
-loop-holds c = (omega arith, all-none _)
-
 contract-sound-requires : tie.Need-contract-sound-requires Inv-loop μ-loop
 unfolding contractPlace
 contract-sound-requires c κs = (omega arith, omega arith)
@@ -26,18 +23,12 @@ contract-sound-requires c κs = (omega arith, omega arith)
 returns : tie.Need-returns Inv-loop μ-loop
 returns c =
     let t = c .before .contract-sound in
-    sym (all-stop _ _ _ (c .before .before .loop-test .taken) (sym (t .ensures) ∙ not-true (t .result) (c .if1 .taken)))
-
-add-c : tie.Need-add-c Inv-loop μ-loop
-add-c c = omega arith
-
-loop-less : tie.Need-loop-less Inv-loop μ-loop
-loop-less c = omega arith
+    sym (all-stop _ _ _ (c .before .before .loop-test .taken) (sym (t .ensures) ∙ not-true _ (c .if1 .taken)))
 
 loop-again : tie.Need-loop-again Inv-loop μ-loop
 loop-again c =
     let t = c .before .contract-sound in
-    let passed = sym (t .ensures) ∙ not-false (t .result) (c .if1 .left) in
+    let passed = sym (t .ensures) ∙ not-false _ (c .if1 .left) in
     (omega arith, all-more _ _ (c .before .before .before .loop .inv .1) passed)
 
 returns-2 : tie.Need-returns-2 Inv-loop μ-loop
@@ -51,10 +42,10 @@ contracts-sound-spec =
     (tie.spec
     Inv-loop
     μ-loop
-    loop-holds
+    (λ c. (omega arith, all-none _))  -- loop-holds
     contract-sound-requires
     returns
-    add-c
-    loop-less
+    (λ c. omega arith)  -- add-c
+    (λ c. omega arith)  -- loop-less
     loop-again
     returns-2)

@@ -10,22 +10,11 @@ use Rattle.dayfile.specs.FileHead.{headWhole}
 use Rattle.dayfile.proofs.head.head_sound.Statement.{statement}
 use Rattle.dayfile.proofs.head.head_sound.Tie as tie
 
-head-whole-requires : tie.Need-head-whole-requires
-head-whole-requires c κs = search needs
-
-returns : tie.Need-returns
-returns c =
-    let t = c .before .head-whole in
-    rw (head-is (c .before .before .before .args .file .now), ← t .ensures, not-true (t .result) (c .if1 .taken))
-
 is-whole : (c : tie.Else1) → headWhole (c .before .before .before .args .file .now) ≡ true
-is-whole c = sym (c .before .head-whole .ensures) ∙ not-false (c .before .head-whole .result) (c .if1 .left)
+is-whole c = sym (c .before .head-whole .ensures) ∙ not-false _ (c .if1 .left)
 
 lies : (c : tie.Else1) → Head (c .before .before .before .args .file .now)
 lies c = head _ (is-whole c)
-
-contract-count-requires : tie.Need-contract-count-requires
-contract-count-requires c κs = let l = lies c in omega arith
 
 contracts-sound-requires : tie.Need-contracts-sound-requires
 unfolding contractPlace
@@ -36,21 +25,12 @@ returns-2 c =
     let b = c .before .before in
     let t = c .before .contracts-sound in
     rw (
-      head-is (b .before .before .before .before .args .file .now),
+      head-is _,
       is-whole (b .before),
       ← b .contract-count .ensures,
       ← t .ensures,
       not-true (t .result) (c .if2 .taken),
     )
-
-account-count-requires : tie.Need-account-count-requires
-account-count-requires c κs = let l = lies (c .before .before .before) in search needs
-
-mul-accounts-sound : tie.Need-mul-accounts-sound
-mul-accounts-sound c = let l = lies (c .before .before .before .before) in omega arith
-
-add-accounts-sound : tie.Need-add-accounts-sound
-add-accounts-sound c = let l = lies (c .before .before .before .before) in omega arith
 
 accounts-sound-requires : tie.Need-accounts-sound-requires
 accounts-sound-requires c κs =
@@ -63,7 +43,7 @@ returns-3 c =
     let b = c .before .before .before in
     let d = b .before .before in
     rw (
-      head-is (d .before .before .before .args .file .now),
+      head-is _,
       is-whole d,
       ← b .before .contract-count .ensures,
       ← b .contracts-sound .ensures,
@@ -76,13 +56,13 @@ pub head-sound-spec : {M : Type 1} → statement M
 head-sound-spec =
     tie.close
     (tie.spec
-    head-whole-requires
-    returns
-    contract-count-requires
+    (λ c κs. search needs)  -- head-whole-requires
+    (λ c. let t = c .before .head-whole in rw (head-is _, ← t .ensures, not-true (t .result) (c .if1 .taken)))  -- returns
+    (λ c κs. let l = lies c in omega arith)  -- contract-count-requires
     contracts-sound-requires
     returns-2
-    account-count-requires
-    mul-accounts-sound
-    add-accounts-sound
+    (λ c κs. let l = lies (c .before .before .before) in search needs)  -- account-count-requires
+    (λ c. let l = lies (c .before .before .before .before) in omega arith)  -- mul-accounts-sound
+    (λ c. let l = lies (c .before .before .before .before) in omega arith)  -- add-accounts-sound
     accounts-sound-requires
     returns-3)

@@ -5,11 +5,9 @@ use Rattle.laws.proofs.Signed.{read-pos}
 use Rattle.dayfile.proofs.open.account_with.Statement.{statement}
 use Rattle.dayfile.proofs.open.account_with.Tie as tie
 
-cast-t5 : tie.Need-cast-t5
-cast-t5 c = search needs
-
-returns : tie.Need-returns
-returns c = rw (read-pos (c .args .balance) (omega arith))
-
 pub account-with-spec : {M : Type 1} → statement M
-account-with-spec = tie.close (tie.spec cast-t5 returns)
+account-with-spec =
+    tie.close
+    (tie.spec
+    (λ c. search needs)  -- cast-t5
+    (λ c. rw (read-pos (c .args .balance) (omega arith))))  -- returns

@@ -15,16 +15,14 @@ Inv-loop file start accounts places₀ a₀ places a = (a ≤ accounts) × (plac
 abbrev μ-loop : tie.MeasureT-loop
 μ-loop file start accounts places₀ a₀ places a = accounts - a
 
-account-with-requires : tie.Need-account-with-requires Inv-loop μ-loop
-account-with-requires c κs = omega arith
+-- back to the start
+abbrev Begun : tie.After-balance-at Inv-loop μ-loop → tie.Start Inv-loop μ-loop
+Begun c = c .before .before .before .before .before
 
 loop-holds : tie.Need-loop-holds Inv-loop μ-loop
 loop-holds c =
     let f = c .before .before .args .file .now in
     (omega arith, rw (c .account-with .ensures) (sym (filled-none 32 (accountWith 0 0) (openingHolder f))))
-
-mul-balance-at : tie.Need-mul-balance-at Inv-loop μ-loop
-mul-balance-at c = let l = sound-layout _ (c .before .before .before .before .pre .0) in omega arith
 
 add-balance-at : tie.Need-add-balance-at Inv-loop μ-loop
 add-balance-at c =
@@ -38,39 +36,24 @@ balance-at-requires c κs =
     let l = sound-layout _ (s .pre .0) in
     omega (arith, account-place (s .args .file .now) 0)
 
-mul-maker-at : tie.Need-mul-maker-at Inv-loop μ-loop
-mul-maker-at c = let l = sound-layout _ (c .before .before .before .before .before .pre .0) in omega arith
-
 add-maker-at : tie.Need-add-maker-at Inv-loop μ-loop
 add-maker-at c =
-    let s = c .before .before .before .before .before in
+    let s = Begun c in
     let l = sound-layout _ (s .pre .0) in
     omega (arith, account-place (s .args .file .now) 0)
 
 maker-at-requires : tie.Need-maker-at-requires Inv-loop μ-loop
 maker-at-requires c κs =
-    let s = c .before .before .before .before .before in
+    let s = Begun c in
     let l = sound-layout _ (s .pre .0) in
     omega (arith, account-place (s .args .file .now) 0)
 
 account-with-requires-2 : tie.Need-account-with-requires-2 Inv-loop μ-loop
 account-with-requires-2 c κs =
-    let s = c .before .before .before .before .before .before in
+    let s = Begun (c .before) in
     let f = s .args .file .now in
     let a = c .before .before .before .loop .a in
-    omega (arith, c .before .balance-at .ensures, balance-read f (s .args .start) a (s .pre .1), balance-most f (s .pre .0) a (omega arith))
-
-mul-places : tie.Need-mul-places Inv-loop μ-loop
-mul-places c = let l = sound-layout _ (c .before .before .before .before .before .before .before .pre .0) in omega arith
-
-array-set-from-places : tie.Need-array-set-from-places Inv-loop μ-loop
-array-set-from-places c = let l = sound-layout _ (c .before .before .before .before .before .before .before .pre .0) in omega arith
-
-add-a : tie.Need-add-a Inv-loop μ-loop
-add-a c = let l = sound-layout _ (c .before .before .before .before .before .before .before .pre .0) in omega arith
-
-loop-less : tie.Need-loop-less Inv-loop μ-loop
-loop-less c = omega arith
+    omega (arith, c .before .balance-at .ensures, balance-read f _ a (s .pre .1), balance-most f (s .pre .0) a (omega arith))
 
 loop-again : tie.Need-loop-again Inv-loop μ-loop
 loop-again c =
@@ -79,8 +62,8 @@ loop-again c =
     let l = sound-layout _ (s .pre .0) in
     let f = s .args .file .now in
     let a = b .loop .a in
-    let balance = c .before .before .balance-at .ensures ∙ sym (balance-read f (s .args .start) a (s .pre .1)) in
-    let maker = c .before .maker-at .ensures ∙ sym (maker-read f (s .args .start) a (s .pre .1)) in
+    let balance = c .before .before .balance-at .ensures ∙ sym (balance-read f _ a (s .pre .1)) in
+    let maker = c .before .maker-at .ensures ∙ sym (maker-read f _ a (s .pre .1)) in
     let holder = c .account-with2 .ensures ∙ ap₂ accountWith balance maker in
     (omega arith, fill 32 (accountWith 0 0) (openingHolder f) a (omega arith) (b .loop .inv .1) holder)
 
@@ -96,18 +79,18 @@ opening-accounts-spec =
     (tie.spec
     Inv-loop
     μ-loop
-    account-with-requires
+    (λ c κs. omega arith)  -- account-with-requires
     loop-holds
-    mul-balance-at
+    (λ c. let l = sound-layout _ (c .before .before .before .before .pre .0) in omega arith)  -- mul-balance-at
     add-balance-at
     balance-at-requires
-    mul-maker-at
+    (λ c. let l = sound-layout _ (Begun c .pre .0) in omega arith)  -- mul-maker-at
     add-maker-at
     maker-at-requires
     account-with-requires-2
-    mul-places
-    array-set-from-places
-    add-a
-    loop-less
+    (λ c. let l = sound-layout _ (Begun (c .before .before) .pre .0) in omega arith)  -- mul-places
+    (λ c. let l = sound-layout _ (Begun (c .before .before) .pre .0) in omega arith)  -- array-set-from-places
+    (λ c. let l = sound-layout _ (Begun (c .before .before) .pre .0) in omega arith)  -- add-a
+    (λ c. omega arith)  -- loop-less
     loop-again
     returns)

@@ -29,34 +29,13 @@ Head c = c .before .before
 laid-out : (head : tie.At-loop Inv-loop μ-loop) → Layout (Begun head .args .file .now)
 laid-out head = sound-layout _ (Begun head .pre .0)
 
-loop-holds : tie.Need-loop-holds Inv-loop μ-loop
-loop-holds c = (omega arith, rw (c .no-contract .ensures) (sym (filled-none _ _ _)))
-
-mul-contract-at : tie.Need-mul-contract-at Inv-loop μ-loop
-mul-contract-at c = let l = laid-out (c .before) in omega arith
-
-add-contract-at : tie.Need-add-contract-at Inv-loop μ-loop
-add-contract-at c = let l = laid-out (c .before) in omega arith
-
-contract-at-requires : tie.Need-contract-at-requires Inv-loop μ-loop
-contract-at-requires c κs = let l = laid-out (c .before) in omega arith
-
-mul-places : tie.Need-mul-places Inv-loop μ-loop
-mul-places c = let l = laid-out (Head c) in omega arith
-
-array-set-from-places : tie.Need-array-set-from-places Inv-loop μ-loop
-array-set-from-places c = let l = laid-out (Head c) in omega arith
-
-add-c : tie.Need-add-c Inv-loop μ-loop
-add-c c = let l = laid-out (Head c) in omega arith
-
 loop-again : tie.Need-loop-again Inv-loop μ-loop
 unfolding contractPlace
 loop-again c =
     let head = Head c in
     let l = laid-out head in
     let f = Begun head .args .file .now in
-    (omega arith, fill 4 noContract (openingContract f) (head .loop .c) (omega arith) (head .loop .inv .1) (c .contract-at .ensures))
+    (omega arith, fill 4 noContract (openingContract f) _ (omega arith) (head .loop .inv .1) (c .contract-at .ensures))
 
 returns : tie.Need-returns Inv-loop μ-loop
 unfolding openingContracts
@@ -72,13 +51,13 @@ opening-contracts-spec =
     Inv-loop
     μ-loop
     (λ c κs. search needs)  -- no-contract-requires
-    loop-holds
-    mul-contract-at
-    add-contract-at
-    contract-at-requires
-    mul-places
-    array-set-from-places
-    add-c
+    (λ c. (omega arith, rw (c .no-contract .ensures) (sym (filled-none _ _ _))))  -- loop-holds
+    (λ c. let l = laid-out (c .before) in omega arith)  -- mul-contract-at
+    (λ c. let l = laid-out (c .before) in omega arith)  -- add-contract-at
+    (λ c κs. let l = laid-out (c .before) in omega arith)  -- contract-at-requires
+    (λ c. let l = laid-out (Head c) in omega arith)  -- mul-places
+    (λ c. let l = laid-out (Head c) in omega arith)  -- array-set-from-places
+    (λ c. let l = laid-out (Head c) in omega arith)  -- add-c
     (λ c. omega arith)  -- loop-less
     loop-again
     returns)

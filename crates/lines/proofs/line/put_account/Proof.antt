@@ -6,27 +6,6 @@ use Rattle.endian.proofs.Writes.{then}
 use Rattle.lines.proofs.line.put_account.Statement.{statement}
 use Rattle.lines.proofs.line.put_account.Tie as tie
 
-add-put-first : tie.Need-add-put-first
-add-put-first c = search needs
-
-put-first-requires : tie.Need-put-first-requires
-put-first-requires c κs = search needs
-
-put-signed-field-requires : tie.Need-put-signed-field-requires
-put-signed-field-requires c κs = search needs
-
-put-signed-field-requires-2 : tie.Need-put-signed-field-requires-2
-put-signed-field-requires-2 c κs = search needs
-
-put-signed-field-requires-3 : tie.Need-put-signed-field-requires-3
-put-signed-field-requires-3 c κs = search needs
-
-put-last-requires : tie.Need-put-last-requires
-put-last-requires c κs = search needs
-
-same-length : tie.Need-same-length
-same-length c = search needs
-
 returns : tie.Need-returns
 unfolding fieldsOf
 returns c =
@@ -47,11 +26,11 @@ pub put-account-spec : {M : Type 1} → statement M
 put-account-spec =
     tie.close
     (tie.spec
-    add-put-first
-    put-first-requires
-    put-signed-field-requires
-    put-signed-field-requires-2
-    put-signed-field-requires-3
-    put-last-requires
-    same-length
+    (λ c. search needs)  -- add-put-first
+    (λ c κs. search needs)  -- put-first-requires
+    (λ c κs. search needs)  -- put-signed-field-requires
+    (λ c κs. search needs)  -- put-signed-field-requires-2
+    (λ c κs. search needs)  -- put-signed-field-requires-3
+    (λ c κs. search needs)  -- put-last-requires
+    (λ c. search needs)  -- same-length
     returns)

@@ -5,44 +5,30 @@ use Rattle.endian.proofs.Writes.{then}
 use Rattle.lines.proofs.line.put_answer.Statement.{statement}
 use Rattle.lines.proofs.line.put_answer.Tie as tie
 
-put-first-requires : tie.Need-put-first-requires
-put-first-requires c κs = search needs
+-- back to the call whose answer is `command`
+abbrev Command : tie.After-put-field → tie.After-put-first
+Command c = c .before .before .before .before .before
 
-cast-put-field : tie.Need-cast-put-field
-cast-put-field c = search needs
+-- back to the call whose answer is `code`
+abbrev Code : tie.After-put-field2 → tie.After-put-field
+Code c = c .before .before .before .before .before
 
-put-field-requires : tie.Need-put-field-requires
-put-field-requires c κs = search needs
+-- back to the call whose answer is `order`
+abbrev Order : tie.After-put-field3 → tie.After-put-field2
+Order c = c .before .before .before .before .before
 
-cast-put-field-2 : tie.Need-cast-put-field-2
-cast-put-field-2 c = search needs
-
-put-field-requires-2 : tie.Need-put-field-requires-2
-put-field-requires-2 c κs = search needs
-
-cast-put-field-3 : tie.Need-cast-put-field-3
-cast-put-field-3 c = search needs
-
-put-field-requires-3 : tie.Need-put-field-requires-3
-put-field-requires-3 c κs = search needs
-
-cast-put-last : tie.Need-cast-put-last
-cast-put-last c = search needs
-
-put-last-requires : tie.Need-put-last-requires
-put-last-requires c κs = search needs
-
-same-length : tie.Need-same-length
-same-length c = search needs
+-- back to the call whose answer is `traded`
+abbrev Traded : tie.After-put-last → tie.After-put-field3
+Traded c = c .before .before .before .before .before
 
 returns : tie.Need-returns
 unfolding fieldsOf answerLine
 returns c =
     let p5 = c .before .before in
-    let p4 = p5 .before .before .before .before .before in
-    let p3 = p4 .before .before .before .before .before in
-    let p2 = p3 .before .before .before .before .before in
-    let p1 = p2 .before .before .before .before .before in
+    let p4 = Traded p5 in
+    let p3 = Order p4 in
+    let p2 = Code p3 in
+    let p1 = Command p2 in
     then (p1 .put-first .ensures)
     (then (p2 .put-field .ensures)
     (then (p3 .put-field2 .ensures)
@@ -53,14 +39,14 @@ pub put-answer-spec : {M : Type 1} → statement M
 put-answer-spec =
     tie.close
     (tie.spec
-    put-first-requires
-    cast-put-field
-    put-field-requires
-    cast-put-field-2
-    put-field-requires-2
-    cast-put-field-3
-    put-field-requires-3
-    cast-put-last
-    put-last-requires
-    same-length
+    (λ c κs. search needs)  -- put-first-requires
+    (λ c. search needs)  -- cast-put-field
+    (λ c κs. search needs)  -- put-field-requires
+    (λ c. search needs)  -- cast-put-field-2
+    (λ c κs. search needs)  -- put-field-requires-2
+    (λ c. search needs)  -- cast-put-field-3
+    (λ c κs. search needs)  -- put-field-requires-3
+    (λ c. search needs)  -- cast-put-last
+    (λ c κs. search needs)  -- put-last-requires
+    (λ c. search needs)  -- same-length
     returns)

@@ -5,18 +5,19 @@ use Rattle.endian.proofs.Writes.{then}
 use Rattle.lines.proofs.line.put_broken.Statement.{statement}
 use Rattle.lines.proofs.line.put_broken.Tie as tie
 
-put-byte-requires : tie.Need-put-byte-requires
-put-byte-requires c κs = search needs
-
-put-last-requires : tie.Need-put-last-requires
-put-last-requires c κs = search needs
-
-same-length : tie.Need-same-length
-same-length c = search needs
+-- back to the call whose answer is `letter`
+abbrev Letter : tie.After-put-last → tie.After-put-byte
+Letter c = c .before .before .before .before
 
 returns : tie.Need-returns
 unfolding fieldsOf decimal digits
-returns c = then (c .before .before .before .before .before .before .put-byte .ensures) (c .before .before .put-last .ensures)
+returns c = then (Letter (c .before .before) .put-byte .ensures) (c .before .before .put-last .ensures)
 
 pub put-broken-spec : {M : Type 1} → statement M
-put-broken-spec = tie.close (tie.spec put-byte-requires put-last-requires same-length returns)
+put-broken-spec =
+    tie.close
+    (tie.spec
+    (λ c κs. search needs)  -- put-byte-requires
+    (λ c κs. search needs)  -- put-last-requires
+    (λ c. search needs)  -- same-length
+    returns)

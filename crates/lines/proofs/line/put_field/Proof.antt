@@ -4,17 +4,15 @@ use Rattle.endian.proofs.Writes.{then}
 use Rattle.lines.proofs.line.put_field.Statement.{statement}
 use Rattle.lines.proofs.line.put_field.Tie as tie
 
-put-byte-requires : tie.Need-put-byte-requires
-put-byte-requires c κs = search needs
-
-put-decimal-requires : tie.Need-put-decimal-requires
-put-decimal-requires c κs = search needs
-
-same-length : tie.Need-same-length
-same-length c = search needs
-
-returns : tie.Need-returns
-returns c = then (c .before .before .before .before .before .before .put-byte .ensures) (c .before .before .put-decimal .ensures)
+-- back to the call whose answer is `next`
+abbrev Next : tie.After-put-decimal → tie.After-put-byte
+Next c = c .before .before .before .before
 
 pub put-field-spec : {M : Type 1} → statement M
-put-field-spec = tie.close (tie.spec put-byte-requires put-decimal-requires same-length returns)
+put-field-spec =
+    tie.close
+    (tie.spec
+    (λ c κs. search needs)  -- put-byte-requires
+    (λ c κs. search needs)  -- put-decimal-requires
+    (λ c. search needs)  -- same-length
+    (λ c. then (Next (c .before .before) .put-byte .ensures) (c .before .before .put-decimal .ensures)))  -- returns

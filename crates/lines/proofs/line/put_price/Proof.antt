@@ -5,6 +5,10 @@ use Rattle.endian.proofs.Writes.{then}
 use Rattle.lines.proofs.line.put_price.Statement.{statement}
 use Rattle.lines.proofs.line.put_price.Tie as tie
 
+-- back to the call whose answer is `contract`
+abbrev Contract : tie.After-put-last → tie.After-put-first
+Contract c = c .before .before .before .before
+
 add-put-first : tie.Need-add-put-first
 add-put-first c = search needs
 
@@ -19,7 +23,7 @@ same-length c = search needs
 
 returns : tie.Need-returns
 unfolding fieldsOf
-returns c = then (c .before .before .before .before .before .before .put-first .ensures) (c .before .before .put-last .ensures)
+returns c = then (Contract (c .before .before) .put-first .ensures) (c .before .before .put-last .ensures)
 
 pub put-price-spec : {M : Type 1} → statement M
 put-price-spec =

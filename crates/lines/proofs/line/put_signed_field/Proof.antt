@@ -5,6 +5,10 @@ use Rattle.endian.proofs.Writes.{then}
 use Rattle.lines.proofs.line.put_signed_field.Statement.{statement}
 use Rattle.lines.proofs.line.put_signed_field.Tie as tie
 
+-- back to the call whose answer is `next`
+abbrev Next : tie.After-put-signed → tie.After-put-byte
+Next c = c .before .before .before .before
+
 put-byte-requires : tie.Need-put-byte-requires
 put-byte-requires c κs = search needs
 
@@ -16,7 +20,7 @@ same-length c = search needs
 
 returns : tie.Need-returns
 returns c =
-    let b = c .before .before .before .before .before .before in
+    let b = Next (c .before .before) in
     rw (toZ-ofZ (b .before .before .before .fits .x)) at (then (b .put-byte .ensures) (c .before .before .put-signed .ensures))
 
 pub put-signed-field-spec : {M : Type 1} → statement M

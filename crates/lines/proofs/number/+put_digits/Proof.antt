@@ -32,7 +32,7 @@ put-digits-returns : (t : ℕ) → put-digits-lts.Need-returns (
 put-digits-returns t c =
     let s = c .before .before in
     let room = s .pre .1 in
-    digits-none (s .args .places) (s .args .n) (c .if1 .taken) (omega arith)
+    digits-none _ _ (c .if1 .taken) (omega arith)
 
 put-digits-cast-put-byte : (t : ℕ) → put-digits-lts.Need-cast-put-byte (
   put-byte-reads.Asked,
@@ -78,7 +78,7 @@ put-digits-returns-2 t c =
     let b = c .before .before in
     let s = b .before .before .before in
     let a = s .before .before .args in
-    digits-one (a .places) (a .n) (s .if1 .left) (b .before .before .if2 .taken) (b .put-byte .ensures)
+    digits-one _ _ (s .if1 .left) (b .before .before .if2 .taken) (b .put-byte .ensures)
 
 put-digits-sub-put-digits : (t : ℕ) → put-digits-lts.Need-sub-put-digits (
   put-byte-reads.Asked,
@@ -124,8 +124,9 @@ put-digits-put-byte-requires-2 : (t : ℕ) → put-digits-lts.Need-put-byte-requ
   put-digits.Post,
 ) (put-digits-at t) put-digits.Post
 put-digits-put-byte-requires-2 t c κs =
-    let w = c .before .before .before .put-digits .ensures in
-    let b = c .before .before .before .before .before .before in
+    let d = c .before .before .before in
+    let w = d .put-digits .ensures in
+    let b = d .before .before .before in
     let room = b .before .before .pre .1 in
     omega (arith, least _ (b .if1 .left))
 
@@ -136,7 +137,7 @@ put-digits-same-length-2 : (t : ℕ) → put-digits-lts.Need-same-length-2 (
   put-digits.Post,
 ) (put-digits-at t) put-digits.Post
 put-digits-same-length-2 t c =
-    c .before .before .put-byte2 .ensures .kept ∙ c .before .before .before .before .before .before .put-digits .ensures .kept
+    let p = c .before .before in p .put-byte2 .ensures .kept ∙ p .before .before .before .before .put-digits .ensures .kept
 
 put-digits-returns-3 : (t : ℕ) → put-digits-lts.Need-returns-3 (
   put-byte-reads.Asked,
@@ -145,11 +146,12 @@ put-digits-returns-3 : (t : ℕ) → put-digits-lts.Need-returns-3 (
   put-digits.Post,
 ) (put-digits-at t) put-digits.Post
 put-digits-returns-3 t c =
-    let d = c .before .before .before .before .before .before in
+    let p = c .before .before in
+    let d = p .before .before .before .before in
     let b = d .before .before in
     let s = b .before .before .before in
     let w = d .put-digits .ensures in
-    digits-more (s .args .places) (s .args .n) (b .before .if1 .left) (b .if2 .left) w (c .before .before .put-byte2 .ensures)
+    digits-more _ _ (b .before .if1 .left) (b .if2 .left) w (p .put-byte2 .ensures)
 
 pub +put-digits-spec : {M : Type 1} → statement M
 +put-digits-spec = close μ-put-digits λ t. put-digits-lts.spec (

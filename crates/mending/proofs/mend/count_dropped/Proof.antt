@@ -13,7 +13,7 @@ sub-result : tie.Need-sub-result
 sub-result c = omega (arith, c .before .pre .2, kept-most (c .before .args .file .now) (c .before .args .first) (c .before .args .n))
 
 returns : tie.Need-returns
-returns c = count-whole (c .before .args .file .now) (c .before .args .first) _ _ (c .before .pre .1) (c .before .pre .2) (c .if1 .taken)
+returns c = search count-whole
 
 sub-result-2 : tie.Need-sub-result-2
 sub-result-2 c = omega (arith, c .before .pre .2, kept-most (c .before .args .file .now) (c .before .args .first) (c .before .args .n))
@@ -22,7 +22,7 @@ add-result : tie.Need-add-result
 add-result c = search needs
 
 returns-2 : tie.Need-returns-2
-returns-2 c = count-partial (c .before .args .file .now) (c .before .args .first) _ _ (c .before .pre .1) (c .before .pre .2) (c .if1 .left)
+returns-2 c = search count-partial
 
 pub count-dropped-spec : {M : Type 1} → statement M
 count-dropped-spec =

@@ -12,14 +12,26 @@ use borrow.Author.Needs.{needs}
 use Rattle.mending.proofs.mend.mend.Statement.{statement}
 use Rattle.mending.proofs.mend.mend.Tie as tie
 
-sound : (c : tie.Else1) → headSound (c .before .before .before .before .before .args .file .now) ≡ true
-sound c = sym (c .before .head-sound .ensures) ∙ not-false (c .before .head-sound .result) (c .if1 .left)
+-- back to the start
+abbrev Begun : tie.Else1 → tie.Start
+Begun c = c .before .before .before .before .before
 
-within : (c : tie.After-head-end) → c .head-end .result ≤ length (c .before .before .before .before .before .before .args .file .now)
+-- back to the test `if3`
+abbrev Past-if3 : tie.After-put-list-arg → tie.Else3
+Past-if3 c = c .before .before .before .before .before
+
+-- back to the call of `put-file`
+abbrev Put-file : tie.After-put-list → tie.After-put-file
+Put-file c = c .before .before .before .before
+
+sound : (c : tie.Else1) → headSound (Begun c .args .file .now) ≡ true
+sound c = sym (c .before .head-sound .ensures) ∙ not-false _ (c .if1 .left)
+
+within : (c : tie.After-head-end) → c .head-end .result ≤ length (Begun (c .before) .args .file .now)
 within c = omega (arith, c .head-end .ensures, place-within _ (sound (c .before)))
 
 found : (c : tie.After-count-kept)
-    → let file = c .before .before .before .before .before .before .before .args .file .now in
+    → let file = Begun (c .before .before) .args .file .now in
     Found file (c .before .head-end .result) (wholeRecords file (c .before .head-end .result)) (c .count-kept .result)
 found c = record { sound = sound (c .before .before); place = c .before .head-end .ensures; records = refl; keeps = c .count-kept .ensures }
 
@@ -27,7 +39,7 @@ head-sound-requires : tie.Need-head-sound-requires
 head-sound-requires c κs = search needs
 
 returns : tie.Need-returns
-returns c = head-broken _ _ _ (sym (c .before .head-sound .ensures) ∙ not-true (c .before .head-sound .result) (c .if1 .taken))
+returns c = head-broken _ _ _ (sym (c .before .head-sound .ensures) ∙ not-true _ (c .if1 .taken))
 
 head-end-requires : tie.Need-head-end-requires
 head-end-requires c κs = sound c
@@ -36,7 +48,7 @@ sub-n : tie.Need-sub-n
 sub-n c = within c
 
 count-kept-requires : tie.Need-count-kept-requires
-count-kept-requires c κs = whole-within (c .before .before .before .before .before .before .args .file .now) _ (within c)
+count-kept-requires c κs = whole-within (Begun (c .before) .args .file .now) _ (within c)
 
 count-dropped-requires : tie.Need-count-dropped-requires
 count-dropped-requires c κs = (within (c .before), refl, c .count-kept .ensures)
@@ -66,8 +78,8 @@ put-file-requires c κs =
 
 put-list-requires : tie.Need-put-list-requires
 put-list-requires c κs =
-    let l = listed (found (c .before .before .before .before .before .before .before .before)) (c .before .before .before .before .before .before .before .count-dropped .ensures) in
-    ((l .within, refl, l .drops), list-fits l (omega (arith, c .before .before .before .before .before .if3 .left)))
+    let l = listed (found (Past-if3 c .before .before .before)) (Past-if3 c .before .before .count-dropped .ensures) in
+    ((l .within, refl, l .drops), list-fits l (omega (arith, Past-if3 c .if3 .left)))
 
 same-length : tie.Need-same-length
 same-length c = search needs
@@ -77,9 +89,9 @@ same-length-2 c = search needs
 
 returns-4 : tie.Need-returns-4
 returns-4 c =
-    let fits = c .before .before .before .before .before .before .before .before in
+    let fits = Past-if3 (c .before .before .before) in
     mended (found (fits .before .before .before)) (fits .before .before .count-dropped .ensures) _ _ (omega (arith, fits .before .if2 .left)) (omega (arith, fits .if3 .left))
-    (c .before .before .before .before .before .before .put-file .ensures) (c .before .before .put-list .ensures)
+    (Put-file (c .before .before) .put-file .ensures) (c .before .before .put-list .ensures)
 
 pub mend-spec : {M : Type 1} → statement M
 mend-spec =

@@ -5,6 +5,10 @@ use borrow.Author.Needs.{needs}
 use Rattle.mending.proofs.mend.put_file.Statement.{statement}
 use Rattle.mending.proofs.mend.put_file.Tie as tie
 
+-- back to the call whose answer is `head`
+abbrev Head : tie.After-put-u32-arg → tie.After-put-part
+Head c = c .before .before .before
+
 found : (c : tie.Start) → Found (c .args .file .now) (c .args .first) (c .args .n) (c .args .kept)
 found c = record { sound = c .pre .0 .0; place = c .pre .0 .1; records = c .pre .1 .0 .0; keeps = c .pre .1 .0 .1 }
 
@@ -15,19 +19,21 @@ put-part-requires : tie.Need-put-part-requires
 put-part-requires c κs = let h = first-within (found (c .before .before .before)) in (omega (arith, head-fits (found (c .before .before .before)) (c .before .before .before .pre .1 .1)), omega arith)
 
 cast-put-u32 : tie.Need-cast-put-u32
-cast-put-u32 c = let start = c .before .before .before .before .before .before .before in omega (arith, start .pre .1 .0 .1, kept-limit (start .args .file .now) (start .args .first) (start .args .n))
+cast-put-u32 c = let start = Head c .before .before .before .before in omega (arith, start .pre .1 .0 .1, kept-limit (start .args .file .now) (start .args .first) (start .args .n))
 
 put-u32-requires : tie.Need-put-u32-requires
-put-u32-requires c κs = count-room (found (c .before .before .before .before .before .before .before)) (c .before .before .before .put-part .ensures) (c .before .before .before .before .before .before .before .pre .1 .1)
+put-u32-requires c κs = count-room (found (Head c .before .before .before .before)) (c .before .before .before .put-part .ensures) (Head c .before .before .before .before .pre .1 .1)
 
 put-kept-requires : tie.Need-put-kept-requires
-put-kept-requires c κs = let start = c .before .before .before .before .before .before .before .before .before .before .before in kept-room (found start) (c .before .before .before .before .before .before .before .put-part .ensures) (start .pre .1 .1) (c .before .before .before .put-u32 .ensures)
+put-kept-requires c κs =
+    let head = Head (c .before .before .before .before) in
+    let start = head .before .before .before .before in kept-room (found start) (head .put-part .ensures) (start .pre .1 .1) (c .before .before .before .put-u32 .ensures)
 
 same-length : tie.Need-same-length
 same-length c = search needs
 
 returns : tie.Need-returns
-returns c = file-written (found (c .before .before .before .before .before .before .before .before .before .before .before .before .before .before)) (c .before .before .before .before .before .before .before .before .before .before .put-part .ensures) (c .before .before .before .before .before .before .put-u32 .ensures) (c .before .before .put-kept .ensures)
+returns c = search file-written
 
 pub put-file-spec : {M : Type 1} → statement M
 put-file-spec =

@@ -13,6 +13,10 @@ Inv-loop file first n kept₀ k₀ kept k = (k ≤ n) × (kept ≡ Mend·kept fi
 abbrev μ-loop : tie.MeasureT-loop
 μ-loop file first n kept₀ k₀ kept k = n - k
 
+-- back to the start
+abbrev Begun : tie.Else1 Inv-loop μ-loop → tie.Start Inv-loop μ-loop
+Begun c = c .before .before .before .before .before
+
 loop-holds : tie.Need-loop-holds Inv-loop μ-loop
 loop-holds c = (omega arith, kept-none _ _)
 
@@ -29,7 +33,7 @@ loop-again : tie.Need-loop-again Inv-loop μ-loop
 loop-again c = (omega arith, count-drops _ _ _ _ _ (c .before .before .before .loop .inv .1) (c .before .reason .ensures) (c .if1 .taken))
 
 add-kept : tie.Need-add-kept Inv-loop μ-loop
-add-kept c = omega (arith, kept-most (c .before .before .before .before .before .args .file .now) (c .before .before .before .before .before .args .first) (c .before .before .before .loop .k))
+add-kept c = omega (arith, kept-most (Begun c .args .file .now) (Begun c .args .first) (c .before .before .before .loop .k))
 
 add-k-2 : tie.Need-add-k-2 Inv-loop μ-loop
 add-k-2 c = omega arith

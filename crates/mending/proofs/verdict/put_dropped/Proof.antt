@@ -14,6 +14,14 @@ Inv-loop file first n list₀ at next₀ kept₀ k₀ list next kept k = (k ≤ 
 abbrev μ-loop : tie.MeasureT-loop
 μ-loop file first n list₀ at next₀ kept₀ k₀ list next kept k = n - k
 
+-- back to the start
+abbrev Begun : tie.After-reason Inv-loop μ-loop → tie.Start Inv-loop μ-loop
+Begun c = c .before .before .before .before .before
+
+-- back to the call whose answer is `why`
+abbrev Why : tie.After-slice-known2 Inv-loop μ-loop → tie.After-reason Inv-loop μ-loop
+Why c = c .before .before .before .before .before
+
 loop-holds : tie.Need-loop-holds Inv-loop μ-loop
 loop-holds c = (omega arith, (kept-none _ _, none-dropped _ _ (omega (arith, c .before .before .pre .1))))
 
@@ -21,7 +29,7 @@ reason-requires : tie.Need-reason-requires Inv-loop μ-loop
 reason-requires c κs = omega (arith, c .before .before .before .before .pre .0)
 
 add-kept : tie.Need-add-kept Inv-loop μ-loop
-add-kept c = omega (arith, kept-most (c .before .before .before .before .before .before .args .file .now) (c .before .before .before .before .before .before .args .first) (c .before .before .before .loop .k))
+add-kept c = omega (arith, kept-most (Begun (c .before) .args .file .now) (Begun (c .before) .args .first) (c .before .before .before .loop .k))
 
 add-k : tie.Need-add-k Inv-loop μ-loop
 add-k c = omega arith
@@ -30,10 +38,22 @@ loop-less : tie.Need-loop-less Inv-loop μ-loop
 loop-less c = omega arith
 
 loop-again : tie.Need-loop-again Inv-loop μ-loop
-loop-again c = (omega arith, (count-keeps _ _ _ _ _ (c .before .before .before .loop .inv .1 .0) (c .before .reason .ensures) (c .if1 .taken), list-keeps _ _ _ _ _ (c .before .before .before .loop .inv .1 .0) (c .before .reason .ensures) (c .if1 .taken) (c .before .before .before .loop .inv .1 .1)))
+loop-again c = (
+  omega arith,
+  (
+    count-keeps _ _ _ _ _ (c .before .before .before .loop .inv .1 .0) (c .before .reason .ensures) (c .if1 .taken),
+    list-keeps
+        _ _ _ _ _ (c .before .before .before .loop .inv .1 .0) (c .before .reason .ensures) (c .if1 .taken) (c .before .before .before .loop .inv .1 .1),
+  ),
+)
 
 put-entry-requires : tie.Need-put-entry-requires Inv-loop μ-loop
-put-entry-requires c κs = (list-room _ _ _ _ _ (c .before .before .before .before .loop .inv .1 .0) (c .before .before .reason .ensures) (c .before .if1 .left) (c .before .before .before .before .before .before .before .args .n) (c .before .before .before .loop-test .taken) (c .before .before .before .before .before .before .before .pre .1) (c .before .before .before .before .loop .inv .1 .1), omega (arith, c .before .before .before .before .before .before .before .fits))
+put-entry-requires c κs =
+    let start = Begun (c .before .before) in (
+      list-room _ _ _ _ _ (c .before .before .before .before .loop .inv .1 .0) (c .before .before .reason .ensures) (c .before .if1 .left) _
+          (c .before .before .before .loop-test .taken) (start .pre .1) (c .before .before .before .before .loop .inv .1 .1),
+      omega (arith, start .fits),
+    )
 
 add-k-2 : tie.Need-add-k-2 Inv-loop μ-loop
 add-k-2 c = omega arith
@@ -42,7 +62,14 @@ loop-less-2 : tie.Need-loop-less-2 Inv-loop μ-loop
 loop-less-2 c = omega arith
 
 loop-again-2 : tie.Need-loop-again-2 Inv-loop μ-loop
-loop-again-2 c = (omega arith, (count-drops _ _ _ _ _ (c .before .before .before .before .before .before .before .loop .inv .1 .0) (c .before .before .before .before .before .reason .ensures) (c .before .before .before .before .if1 .left), list-drops _ _ _ _ _ (c .before .before .before .before .before .before .before .loop .inv .1 .0) (c .before .before .before .before .before .reason .ensures) (c .before .before .before .before .if1 .left) (c .before .before .before .before .before .before .before .loop .inv .1 .1) (c .before .before .put-entry .ensures)))
+loop-again-2 c = (
+  omega arith,
+  (
+    count-drops _ _ _ _ _ (Why c .before .before .loop .inv .1 .0) (Why c .reason .ensures) (c .before .before .before .before .if1 .left),
+    list-drops _ _ _ _ _ (Why c .before .before .loop .inv .1 .0) (Why c .reason .ensures) (c .before .before .before .before .if1 .left)
+        (Why c .before .before .loop .inv .1 .1) (c .before .before .put-entry .ensures),
+  ),
+)
 
 same-length : tie.Need-same-length Inv-loop μ-loop
 same-length c = c .before .loop .inv .1 .1 .kept

@@ -4,6 +4,10 @@ use Rattle.endian.proofs.Writes.{then}
 use Rattle.mending.proofs.verdict.put_entry.Statement.{statement}
 use Rattle.mending.proofs.verdict.put_entry.Tie as tie
 
+-- back to the call whose answer is `next`
+abbrev Next : tie.After-put-byte → tie.After-put-u64
+Next c = c .before .before .before .before
+
 add-put-u64 : tie.Need-add-put-u64
 add-put-u64 c = search needs
 
@@ -17,7 +21,7 @@ same-length : tie.Need-same-length
 same-length c = search needs
 
 returns : tie.Need-returns
-returns c = then (c .before .before .before .before .before .before .put-u64 .ensures) (c .before .before .put-byte .ensures)
+returns c = then (Next (c .before .before) .put-u64 .ensures) (c .before .before .put-byte .ensures)
 
 pub put-entry-spec : {M : Type 1} → statement M
 put-entry-spec =

@@ -15,6 +15,14 @@ Inv-loop file first n out₀ at next₀ kept₀ k₀ out next kept k = (k ≤ n)
 abbrev μ-loop : tie.MeasureT-loop
 μ-loop file first n out₀ at next₀ kept₀ k₀ out next kept k = n - k
 
+-- back to the start
+abbrev Begun : tie.After-put-part-arg Inv-loop μ-loop → tie.Start Inv-loop μ-loop
+Begun c = c .before .before .before .before .before .before .before
+
+-- back to the call whose answer is `why`
+abbrev Why : tie.After-slice-known2 Inv-loop μ-loop → tie.After-reason Inv-loop μ-loop
+Why c = c .before .before .before .before .before
+
 loop-holds : tie.Need-loop-holds Inv-loop μ-loop
 loop-holds c = (omega arith, (kept-none _ _, none-kept _ _ (omega (arith, c .before .before .pre .1))))
 
@@ -28,19 +36,32 @@ loop-less : tie.Need-loop-less Inv-loop μ-loop
 loop-less c = omega arith
 
 loop-again : tie.Need-loop-again Inv-loop μ-loop
-loop-again c = (omega arith, (count-drops _ _ _ _ _ (c .before .before .before .loop .inv .1 .0) (c .before .reason .ensures) (c .if1 .taken), file-drops _ _ _ _ _ (c .before .before .before .loop .inv .1 .0) (c .before .reason .ensures) (c .if1 .taken) (c .before .before .before .loop .inv .1 .1)))
+loop-again c = (
+  omega arith,
+  (
+    count-drops _ _ _ _ _ (c .before .before .before .loop .inv .1 .0) (c .before .reason .ensures) (c .if1 .taken),
+    file-drops
+        _ _ _ _ _ (c .before .before .before .loop .inv .1 .0) (c .before .reason .ensures) (c .if1 .taken) (c .before .before .before .loop .inv .1 .1),
+  ),
+)
 
 mul-put-part : tie.Need-mul-put-part Inv-loop μ-loop
-mul-put-part c = omega (arith, c .before .before .before .before .before .before .before .pre .0)
+mul-put-part c = omega (arith, Begun c .pre .0)
 
 add-put-part : tie.Need-add-put-part Inv-loop μ-loop
-add-put-part c = omega (arith, c .before .before .before .before .before .before .before .pre .0)
+add-put-part c = omega (arith, Begun c .pre .0)
 
 put-part-requires : tie.Need-put-part-requires Inv-loop μ-loop
-put-part-requires c κs = (file-room _ _ _ _ _ (c .before .before .before .before .loop .inv .1 .0) (c .before .before .reason .ensures) (c .before .if1 .left) (c .before .before .before .before .before .before .before .args .n) (c .before .before .before .loop-test .taken) (c .before .before .before .before .before .before .before .pre .0) (c .before .before .before .before .before .before .before .pre .1) (c .before .before .before .before .loop .inv .1 .1), omega (arith, c .before .before .before .before .before .before .before .pre .0))
+put-part-requires c κs = (
+  file-room _ _ _ _ _ (c .before .before .before .before .loop .inv .1 .0) (c .before .before .reason .ensures) (c .before .if1 .left) _
+      (c .before .before .before .loop-test .taken) (Begun c .pre .0) (Begun c .pre .1) (c .before .before .before .before .loop .inv .1 .1),
+  omega (arith, Begun c .pre .0),
+)
 
 add-kept : tie.Need-add-kept Inv-loop μ-loop
-add-kept c = omega (arith, kept-most (c .before .before .before .before .before .before .before .before .before .before .args .file .now) (c .before .before .before .before .before .before .before .before .before .before .args .first) (c .before .before .before .before .before .before .before .loop .k))
+add-kept c =
+    let start = Begun (c .before .before .before) in
+    omega (arith, kept-most (start .args .file .now) (start .args .first) (Why c .before .before .loop .k))
 
 add-k-2 : tie.Need-add-k-2 Inv-loop μ-loop
 add-k-2 c = omega arith
@@ -49,7 +70,14 @@ loop-less-2 : tie.Need-loop-less-2 Inv-loop μ-loop
 loop-less-2 c = omega arith
 
 loop-again-2 : tie.Need-loop-again-2 Inv-loop μ-loop
-loop-again-2 c = (omega arith, (count-keeps _ _ _ _ _ (c .before .before .before .before .before .before .before .loop .inv .1 .0) (c .before .before .before .before .before .reason .ensures) (c .before .before .before .before .if1 .left), file-keeps _ _ _ _ _ (c .before .before .before .before .before .before .before .loop .inv .1 .0) (c .before .before .before .before .before .reason .ensures) (c .before .before .before .before .if1 .left) (c .before .before .before .before .before .before .before .loop .inv .1 .1) (c .before .before .put-part .ensures)))
+loop-again-2 c = (
+  omega arith,
+  (
+    count-keeps _ _ _ _ _ (Why c .before .before .loop .inv .1 .0) (Why c .reason .ensures) (c .before .before .before .before .if1 .left),
+    file-keeps _ _ _ _ _ (Why c .before .before .loop .inv .1 .0) (Why c .reason .ensures) (c .before .before .before .before .if1 .left)
+        (Why c .before .before .loop .inv .1 .1) (c .before .before .put-part .ensures),
+  ),
+)
 
 same-length : tie.Need-same-length Inv-loop μ-loop
 same-length c = c .before .loop .inv .1 .1 .kept
