@@ -16,7 +16,7 @@ use Rattle.rules.specs.Answers.{conditionsRefused, dayLimitOrder, fillab
 use Rattle.rules.specs.Bounds.{allowedToday, auction, closed, continuous, dayHigh, dayLow, noTrading, onTick, preOpen}
 use Rattle.rules.specs.Change.{arriving, asked, changeRefusals, changed, gone, isSell, lessened, losesPlace, oldOrder, placeKept, placeLost, reentered, unchanged}
 use Rattle.rules.specs.Command.{commandOf, quoteOf, zeros}
-use Rattle.rules.specs.DayFile.{accountPlace, accountSound, balanceFrom, contractPlace, contractsIn, makerFrom, u16At, u32At, u64At, u8At}
+use Rattle.rules.specs.DayFile.{accountPlace, accountSound, balanceFrom, contractPlace, contractsIn, makerFrom, openingAccount, u16At, u32At, u64At, u8At}
 use Rattle.rules.specs.Examples.{Row, _gives_, allRight}
 use Rattle.rules.specs.Exchange.{Exchange, absent, accountAt, bestPrice, holdingAt, listingAt, lotsWhere, noOrder, noTrade, resting}
 use Rattle.rules.specs.Holdings.{afterLeg, bookLeg, bookTrade, bookTrades}
@@ -25,6 +25,7 @@ use Rattle.rules.specs.Margin.{chargeOf, chargedLots, chargedTo}
 use Rattle.rules.specs.Matching.{enter, fillable, lastPrice, meets, methodOf, middle, pairedPrice, remainder, restIn, restLots, restedLots, stays, sweep, tradePrice, tradeWith, tradedLots}
 use Rattle.rules.specs.Memory.{Memory, exchangeOf, listingIn, memory, orderWords, put, putAccounts, putQueue, putQueues, putState, putTrades, queueIn, recordedTrades, stepIn}
 use Rattle.rules.specs.Quote.{Offered, half, offered, quoteRefusals, quoteTrades, quoted, withBuy, withSell, withoutQuote}
+use Rattle.rules.specs.Settlement.{settledAccount}
 use Rattle.rules.specs.Step.{Effect, cancelled, enteredOf, exchangeAfter, inserted, listingAfter, removed, without}
 use Rattle.rules.specs.declared.Account.{Account}
 use Rattle.rules.specs.declared.Command.{Command}
@@ -348,7 +349,11 @@ quote-places = refl
 file : ℕ → ℕ → List ℕ
 file low high = 0 ∷ 0 ∷ 0 ∷ 0 ∷ 1 ∷ 0 ∷ 0 ∷ 0 ∷ low ∷ 0 ∷ 100 ∷ 167 ∷ 179 ∷ 182 ∷ 224 ∷ high ∷ []
 
--- the same, its balance 0 but for the last byte
+-- two accounts that open with nothing, the second a maker
+pair : List ℕ
+pair = 0 ∷ 0 ∷ 0 ∷ 0 ∷ 2 ∷ 0 ∷ 0 ∷ 0 ∷ 0 ∷ 0 ∷ 0 ∷ 0 ∷ 0 ∷ 0 ∷ 0 ∷ 0 ∷ 0 ∷ 0 ∷ 0 ∷ 0 ∷ 0 ∷ 0 ∷ 0 ∷ 128 ∷ []
+
+-- one account, its balance 0 but for the last byte
 bare : ℕ → List ℕ
 bare high = 0 ∷ 0 ∷ 0 ∷ 0 ∷ 1 ∷ 0 ∷ 0 ∷ 0 ∷ 0 ∷ 0 ∷ 0 ∷ 0 ∷ 0 ∷ 0 ∷ 0 ∷ high ∷ []
 
@@ -366,8 +371,13 @@ makers =
     -- a maker that opens with nothing
     ∷ (makerFrom (bare 128) 0 gives 1)
     ∷ (balanceFrom (bare 128) 0 gives 0)
+    -- each account opens with its own mark, and a settlement leaves it
+    ∷ (openingAccount pair 0 .maker gives 0)
+    ∷ (openingAccount pair 1 .maker gives 1)
+    ∷ (settledAccount (state closed [] [] 0 1 1 (account 1 1_000 0 0)) 0 .maker gives 1)
+    ∷ (settledAccount (state closed [] [] 0 1 1 (account 1 1_000 0 0)) 1 .maker gives 0)
     ∷ []
 
 pub maker-bits : allRight makers ≡ true
-unfolding allRight makers file bare accountPlace accountSound balanceFrom contractPlace contractsIn makerFrom u16At u32At u64At u8At
+unfolding allRight makers file pair bare account contract state accountAt accountPlace accountSound balanceFrom contractPlace contractsIn makerFrom openingAccount settledAccount u16At u32At u64At u8At
 maker-bits = refl
