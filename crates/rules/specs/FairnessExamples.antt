@@ -3,12 +3,13 @@ use mathlib.Core.Bool.{Bool, true, false}
 use mathlib.Core.List.{List, [], _∷_}
 use mathlib.Core.Path.{_≡_, refl}
 use Prim.Native.Nat.{ℕ, _+_}
+use native.Mathlib.Omega.{arith}
 use Rattle.laws.specs.Choice.{pick, allOf}
 use Rattle.laws.specs.Sums.{sumOf}
 use Rattle.rules.specs.Auction.{Matched, auctionMatch, bestFrom, bestOf, better, chosenPrice, lotsReaching, matchAt, matchIn, prices, surplus, tradeAt, volume}
 use Rattle.rules.specs.Examples.{Row, _gives_, allRight}
 use Rattle.rules.specs.Exchange.{bestPrice, lotsWhere}
-use Rattle.rules.specs.Fairness.{isGone, allLots, lotsNumbered, lotsTraded, tradeOf}
+use Rattle.rules.specs.Fairness.{BetweenSellAndBuy, isGone, allLots, lotsNumbered, lotsTraded, tradeOf}
 use Rattle.rules.specs.Matching.{Entered, Swept, average, enter, fillable, meets, middle, pairedPrice, remainder, restIn, restLots, restedLots, stays, sweep, tradePrice, tradeWith, tradedLots}
 use Rattle.rules.specs.declared.Order.{Order}
 use Rattle.rules.specs.declared.PairingMethod.{PairingMethod}
@@ -113,3 +114,10 @@ table =
 pub fairness-examples : allRight table ≡ true
 unfolding allRight table order sells buyer swept entered price holds buys offers matched twoBuys twoSells allOf sumOf lotsWhere bestPrice average enter fillable meets middle pairedPrice remainder restIn restLots restedLots stays sweep tradePrice tradeWith tradedLots prices lotsReaching volume surplus better bestFrom bestOf chosenPrice tradeAt matchIn matchAt auctionMatch
 fairness-examples = refl
+
+-- 10, at its ends: a buy with a limit of 112 that meets a sell at 110 may trade at 112 and at 110
+pub at-the-limit : BetweenSellAndBuy false 112 110 112
+at-the-limit = record { sell-price = omega arith; buy-price = omega arith }
+
+pub at-the-resting-price : BetweenSellAndBuy false 112 110 110
+at-the-resting-price = record { sell-price = omega arith; buy-price = omega arith }
