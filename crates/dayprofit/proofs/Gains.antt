@@ -13,12 +13,13 @@ use mir.Val.{Fits, SFits, toZ, ofZ}
 use Rattle.laws.specs.Bound.{within-diff}
 use Rattle.laws.specs.Sums.{sumOf}
 use Rattle.rules.specs.Article32.{lotsIn}
+use Rattle.rules.specs.Exchange.{Exchange, contractAt, heldAt}
 use Rattle.rules.specs.Memory.{recordedTrades}
-use Rattle.rules.specs.Settlement.{Leg, Batch, legs, firstLots, otherLots, holdingGain}
+use Rattle.rules.specs.Settlement.{Leg, Batch, dayStart, afterLegs, dayOf, legs, firstLots, otherLots, holdingGain}
 use Rattle.rules.specs.declared.Holding.{Holding}
 use Rattle.rules.specs.declared.Trade.{Trade}
 use Rattle.accounting.proofs.DayProfit.{lots-other}
-use Rattle.dayprofit.specs.Sides.{closedLots, closedValue, openedToday, everOpen, cost, dayOver, Profitable, sideFrom, closingFrom, holdingFrom, SumsSmall, SideSmall, ProfitFrom}
+use Rattle.dayprofit.specs.Sides.{closedLots, closedValue, openedToday, everOpen, cost, Profitable, sideFrom, closingFrom, holdingFrom, SumsSmall, SideSmall, ProfitFrom}
 use Rattle.dayprofit.specs.Slots.{slotOf, SumsAre, UsedAre, Rooms, sumsAt, DaySmall}
 use Rattle.dayprofit.specs.declared.profit.Profit.{Profit}
 use Rattle.dayprofit.specs.declared.profit.Side.{Side}
@@ -224,12 +225,20 @@ module _ (area : List ℕ) (count : ℕ) (closed closes opened opens left used :
     abbrev shortSide : Side
     shortSide = sideFrom ref (h .startshort) (sumsAt closed closes opened opens used a c true)
 
-    pub closing-by-slots : closingFrom longSide shortSide ≡ dayOver ref h a c (recordedTrades area count) .closing
-    closing-by-slots =
-        sym (closing-by-sides ref (h .startlong) (h .startshort) ls (g .covered) longSide shortSide
-        (side-is ref (h .startlong) false ls _ (side-summed false (h .startlong) dl)) (side-is ref (h .startshort) true ls _ (side-summed true (h .startshort) ds)))
+    long-is : SideIs ref (h .startlong) false ls longSide
+    long-is = side-is ref (h .startlong) false ls _ (side-summed false (h .startlong) dl)
 
-    pub holding-by-slots : holdingFrom p longSide shortSide ≡ holdingGain p (dayOver ref h a c (recordedTrades area count))
-    holding-by-slots =
-        sym (holding-by-sides ref (h .startlong) (h .startshort) ls (g .covered) longSide shortSide
-        (side-is ref (h .startlong) false ls _ (side-summed false (h .startlong) dl)) (side-is ref (h .startshort) true ls _ (side-summed true (h .startshort) ds)) p)
+    short-is : SideIs ref (h .startshort) true ls shortSide
+    short-is = side-is ref (h .startshort) true ls _ (side-summed true (h .startshort) ds)
+
+    -- in any exchange with this reference, this holding and these trades
+    module _ (x : Exchange) (terms : contractAt x c .reference ≡ ref) (start : heldAt x a c ≡ h) (day : x .trades ≡ recordedTrades area count) where
+      its-day : dayOf x a c ≡ afterLegs (dayStart ref (h .startlong) (h .startshort)) ls
+      unfolding dayOf
+      its-day = rw (terms, start, day)
+
+      pub closing-by-slots : closingFrom longSide shortSide ≡ dayOf x a c .closing
+      closing-by-slots = rw its-day (sym (closing-by-sides ref (h .startlong) (h .startshort) ls (g .covered) longSide shortSide long-is short-is))
+
+      pub holding-by-slots : holdingFrom p longSide shortSide ≡ holdingGain p (dayOf x a c)
+      holding-by-slots = rw its-day (sym (holding-by-sides ref (h .startlong) (h .startshort) ls (g .covered) longSide shortSide long-is short-is p))

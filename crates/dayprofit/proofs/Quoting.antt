@@ -1,6 +1,6 @@
 -- The price from quotes, and the whole settlement price, by the tests of the code. Assumes nothing.
 use mathlib.Core.List.{List, [], _∷_}
-use mathlib.Core.Path.{_≡_, refl, _∙_}
+use mathlib.Core.Path.{_≡_, refl, sym, ap₂, _∙_}
 use Prim.Native.Nat.{ℕ, zero, suc, _+_, _*_, _/_, _≤_}
 use native.Mathlib.Nat.{add-zero, div-mul-le-self, div-le-of-le-mul}
 use native.Mathlib.Omega.{arith}
@@ -10,12 +10,14 @@ use mir.Syntax.{w32, w64}
 use mir.Val.{Fits}
 use Rattle.areas.specs.Records.{records, decode}
 use Rattle.laws.specs.Sums.{sumOf}
+use Rattle.rules.specs.Exchange.{Listing}
 use Rattle.rules.specs.Matching.{middle, tradedLots}
-use Rattle.rules.specs.Memory.{queueIn, orderFrom, queueStride}
-use Rattle.rules.specs.Settlement.{weightedPrice, quotedPrice, priceFrom}
+use Rattle.rules.specs.Memory.{queueIn, recordedTrades, orderFrom, queueStride}
+use Rattle.rules.specs.Settlement.{weightedPrice, quotedPrice, priceFrom, tradesIn, settlementPrice}
+use Rattle.rules.specs.declared.Contract.{Contract}
 use Rattle.rules.specs.declared.Order.{Order}
 use Rattle.rules.specs.declared.Trade.{Trade}
-use Rattle.dayprofit.specs.Day.{AllSized, TurnoverIs}
+use Rattle.dayprofit.specs.Day.{AllSized, TurnoverIs, PriceIs}
 use Rattle.dayprofit.specs.declared.price.Turnover.{Turnover}
 use Rattle.dayprofit.proofs.Trading.{some-lots, value-small}
 
@@ -72,6 +74,14 @@ module _ (tick reference : ℕ) (buys sells : List Order) (day : Turnover) (r : 
   unfolding priceFrom weightedPrice tradedLots sumOf
   price-weighted [] q some e = absurd (some (q .lots))
   price-weighted (t ∷ ts) q some e = e ∙ rw (q .value, q .lots)
+
+-- in any exchange with the listing and the trades
+pub price-in : (contract : Contract) (buys : List ℕ) (buycount : ℕ) (sells : List ℕ) (sellcount : ℕ) (area : List ℕ) (count c r : ℕ)
+    → r ≡ priceFrom (contract .tick) (contract .reference) (tradesIn c (recordedTrades area count)) (queueIn buys c buycount) (queueIn sells c sellcount)
+    → PriceIs contract buys buycount sells sellcount area count c r
+unfolding settlementPrice
+price-in contract buys buycount sells sellcount area count c r e x listed traded =
+    e ∙ sym (ap₂ (λ (l : Listing) (ts : List Trade). priceFrom (l .contract .tick) (l .contract .reference) (tradesIn c ts) (l .buys) (l .sells)) listed traded)
 
 pub turnover-low : (ts : List Trade) (day : Turnover) → AllSized ts → TurnoverIs ts day → day .value ≤ 1_000_000 * day .lots
 turnover-low ts day s t = omega (arith, value-small ts s, t .value, t .lots)

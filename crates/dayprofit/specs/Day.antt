@@ -5,9 +5,10 @@ use mathlib.Core.Path.{_≡_}
 use Prim.Native.Nat.{ℕ, _*_, _<_, _≤_}
 use lib.ListN.{length}
 use Rattle.rules.specs.Bounds.{maxPrice, maxLots, maxTrades, maxContracts}
+use Rattle.rules.specs.Exchange.{Exchange, listingAt}
 use Rattle.rules.specs.Matching.{tradedLots}
-use Rattle.rules.specs.Memory.{recordedTrades, tradeStride, firstWord}
-use Rattle.rules.specs.Settlement.{tradedValue}
+use Rattle.rules.specs.Memory.{queueIn, recordedTrades, tradeStride, firstWord}
+use Rattle.rules.specs.Settlement.{tradedValue, settlementPrice}
 use Rattle.rules.specs.declared.Contract.{Contract}
 use Rattle.rules.specs.declared.Trade.{Trade}
 use Rattle.dayprofit.specs.declared.price.Turnover.{Turnover}
@@ -42,3 +43,9 @@ pub record Priceable (contract : Contract) (buys : List ℕ) (buycount : ℕ) (s
   pub place : c < maxContracts
   pub trades : SizedTrades area count
   pub quotes : Quotes buys buycount sells sellcount c
+
+-- that price, in any exchange with this listing and these trades
+abbrev pub PriceIs : Contract → List ℕ → ℕ → List ℕ → ℕ → List ℕ → ℕ → ℕ → ℕ → Type 0
+PriceIs contract buys buycount sells sellcount area count c r =
+    (x : Exchange) → listingAt x c ≡ record { contract = contract; buys = queueIn buys c buycount; sells = queueIn sells c sellcount }
+    → x .trades ≡ recordedTrades area count → r ≡ settlementPrice x c

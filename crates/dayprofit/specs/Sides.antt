@@ -10,9 +10,8 @@ use Rattle.laws.specs.Choice.{pick}
 use Rattle.laws.specs.Sums.{sumOf}
 use Rattle.rules.specs.Bounds.{maxTrades, maxLots, maxPrice, maxLimit}
 use Rattle.rules.specs.Memory.{recordedTrades}
-use Rattle.rules.specs.Settlement.{Leg, leg, Batch, Day, dayStart, afterLegs, legs}
+use Rattle.rules.specs.Settlement.{Leg, leg, Batch, dayStart, legs}
 use Rattle.rules.specs.declared.Holding.{Holding}
-use Rattle.rules.specs.declared.Trade.{Trade}
 use Rattle.accounting.specs.DayLegs.{AllCovered}
 use Rattle.dayprofit.specs.Day.{SizedTrades}
 use Rattle.dayprofit.specs.declared.profit.Profit.{Profit}
@@ -57,10 +56,6 @@ cost bs = sumOf (λ b. b .price * b .lots) bs
 -- "Closes use start-of-day lots first, then today's in trade order": all lots of a side, in that order
 abbrev pub everOpen : ℕ → ℕ → Bool → List Leg → List Batch
 everOpen reference start short ls = record { price = reference; lots = start } ∷ openedToday short ls
-
--- an account's day in a contract, from its holding and the recorded trades
-abbrev pub dayOver : ℕ → Holding → ℕ → ℕ → List Trade → Day
-dayOver reference h a c ts = afterLegs (dayStart reference (h .startlong) (h .startshort)) (legs a c ts)
 
 -- what an account's profit in a contract asks for: values in range, and closes that find their lots
 pub record Profitable (ref : ℕ) (h : Holding) (a c : ℕ) (area : List ℕ) (count p : ℕ) : Type 0 where

@@ -5,8 +5,8 @@ ghost use mathlib.Core.List.{[], _∷_};
 ghost use Prim.Native.Nat.{_*_, _/_, _<_, _≤_};
 ghost use Rattle.rules.specs.Bounds.{maxPrice};
 ghost use Rattle.rules.specs.Memory.{queueIn, recordedTrades};
-ghost use Rattle.rules.specs.Settlement.{quotedPrice, priceFrom, tradesIn};
-ghost use Rattle.dayprofit.specs.Day.{Sized, SizedTrades, TurnoverIs, Quotes, Priceable};
+ghost use Rattle.rules.specs.Settlement.{quotedPrice, tradesIn};
+ghost use Rattle.dayprofit.specs.Day.{Sized, SizedTrades, TurnoverIs, Quotes, Priceable, PriceIs};
 use book::queue;
 use book::trades;
 use rules::Contract;
@@ -96,7 +96,7 @@ pub fn settlement_price<'a>(
     c: usize,
 ) -> u32
     requires { ⌜ Priceable contract (now buys) buycount (now sells) sellcount (now area) count c ⌝ }
-    ensures { λ r. ⌜ r ≡ priceFrom (contract .tick) (contract .reference) (tradesIn c (recordedTrades (now (area .entry)) count)) (queueIn (now (buys .entry)) c buycount) (queueIn (now (sells .entry)) c sellcount) ⌝ }
+    ensures { λ r. ⌜ PriceIs contract (now (buys .entry)) buycount (now (sells .entry)) sellcount (now (area .entry)) count c r ⌝ }
 {
     let day = traded(area, count, c as u32);
     let value = day.value;

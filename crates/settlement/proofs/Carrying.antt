@@ -11,13 +11,14 @@ use mir.Facts.{toZ-ofZ}
 use Rattle.laws.specs.Bound.{Within, within-add}
 use Rattle.laws.specs.Written.{Writing, writing-none, writing-more, writing-done}
 use Rattle.laws.proofs.Signed.{back, sum-fits, add-back}
-use Rattle.rules.specs.Exchange.{noHolding}
+use Rattle.rules.specs.Bounds.{balanceMost}
+use Rattle.rules.specs.Exchange.{Exchange, noHolding}
 use Rattle.rules.specs.Memory.{putAccount, putFirst}
-use Rattle.rules.specs.Settlement.{carriedHolding}
+use Rattle.rules.specs.Settlement.{carriedHolding, settledAccount, closingProfit, holdingProfit}
 use Rattle.rules.specs.declared.Account.{Account}
 use Rattle.rules.specs.declared.Holding.{Holding}
 use Rattle.rules.specs.declared.State.{State}
-use Rattle.settlement.specs.Settling.{accountIn, closingTo, holdingTo, carriedAccount, paidAccount, AllPayable, BooksIs}
+use Rattle.settlement.specs.Settling.{accountIn, HasDay, carriedAccount, AllPayable, BooksIs}
 use Rattle.dayprofit.specs.declared.profit.Profit.{Profit}
 use Rattle.settlement.proofs.Totals.{TotalIs}
 use Rattle.settlement.proofs.Places.{written-mapped, written-accounts, written-padded}
@@ -77,23 +78,37 @@ module _ (b x y : ℤ) (hb : Within (2 * 10 ^ 18) b) (hx : Within 16_000_000_000
 
 -- ---- the loop over the accounts
 
+pub record PayingOf (x : Exchange) (s : State) (accounts : List Account) (closing holding : List ℤ) (a : ℕ) : Type 0 where
+  pub paid : Writing (λ i. putAccount (settledAccount x i) (accountIn s i)) (s .accounts) (s .accountcount) a accounts
+  pub closed : Writing (closingProfit x) (replicate 32 (pos 0)) (s .accountcount) a closing
+  pub held : Writing (holdingProfit x) (replicate 32 (pos 0)) (s .accountcount) a holding
+
+-- of any exchange with this day
 pub record Paying (s : State) (trades prices : List ℕ) (accounts : List Account) (closing holding : List ℤ) (a : ℕ) : Type 0 where
-  pub paid : Writing (λ i. putAccount (paidAccount s trades prices i) (accountIn s i)) (s .accounts) (s .accountcount) a accounts
-  pub closed : Writing (λ i. closingTo s trades i (s .contractcount)) (replicate 32 (pos 0)) (s .accountcount) a closing
-  pub held : Writing (λ i. holdingTo s trades prices i (s .contractcount)) (replicate 32 (pos 0)) (s .accountcount) a holding
+  pub paying : (x : Exchange) → HasDay x s trades prices → PayingOf x s accounts closing holding a
 
 pub paying-none : (s : State) (trades prices : List ℕ) → Paying s trades prices (s .accounts) (replicate 32 (pos 0)) (replicate 32 (pos 0)) 0
-paying-none s trades prices = record { paid = writing-none _ _ _; closed = writing-none _ _ _; held = writing-none _ _ _ }
+paying-none s trades prices = record { paying = λ x has. record { paid = writing-none _ _ _; closed = writing-none _ _ _; held = writing-none _ _ _ } }
+
+-- its balance is in range
+pub balance-at : {s : State} {trades prices : List ℕ} → AllPayable s trades prices → {a : ℕ} → a < s .accountcount → Within balanceMost (accountIn s a .balance)
+balance-at g {a} la = rw (g .has .holder a la) at (g .balance a la)
+
+-- the account paid is the one that the rules settle
+settled-as : {x : Exchange} {s : State} {trades prices : List ℕ} → HasDay x s trades prices → (a : ℕ) → a < s .accountcount
+    → carriedAccount (accountIn s a) (s .contractcount) (accountIn s a .balance +ℤ (closingProfit x a +ℤ holdingProfit x a)) ≡ settledAccount x a
+unfolding settledAccount
+settled-as has a la = rw (has .holder a la)
 
 module _ {s : State} {trades prices : List ℕ} (g : AllPayable s trades prices) {accounts : List Account} {closing holding : List ℤ} {a : ℕ}
     (w : Paying s trades prices accounts closing holding a) where
   -- what the code reads of the profit it got
   module _ {p : Profit} (t : TotalIs s trades prices a p) where
-    pub closing-read : toZ w64 (ofZ w64 (p .closing)) ≡ closingTo s trades a (s .contractcount)
-    closing-read = back 16_000_000_000_000_000 (omega arith) (t .closing-small) ∙ t .closing
+    closing-read : (x : Exchange) → HasDay x s trades prices → toZ w64 (ofZ w64 (p .closing)) ≡ closingProfit x a
+    closing-read x has = back 16_000_000_000_000_000 (omega arith) (t .closing-small) ∙ t .closing x has
 
-    pub holding-read : toZ w64 (ofZ w64 (p .holding)) ≡ holdingTo s trades prices a (s .contractcount)
-    holding-read = back 16_000_000_000_000_000 (omega arith) (t .holding-small) ∙ t .holding
+    holding-read : (x : Exchange) → HasDay x s trades prices → toZ w64 (ofZ w64 (p .holding)) ≡ holdingProfit x a
+    holding-read x has = back 16_000_000_000_000_000 (omega arith) (t .holding-small) ∙ t .holding x has
 
     pub closing-reach : Within 16_000_000_000_000_000 (toZ w64 (ofZ w64 (p .closing)))
     closing-reach = rw (back 16_000_000_000_000_000 (omega arith) (t .closing-small)) (t .closing-small)
@@ -106,15 +121,20 @@ module _ {s : State} {trades prices : List ℕ} (g : AllPayable s trades prices)
         → Paying s trades prices (set accounts a r) (set closing a (toZ w64 (ofZ w64 (p .closing)))) (set holding a (toZ w64 (ofZ w64 (p .holding)))) (a + 1)
     paying-more l {r} e =
         record {
-          paid = writing-more _ _ _ (omega (arith, g .accounts, g .declared .accounts)) a r accounts l (e ∙ rw (closing-read, holding-read)) (w .paid);
-          closed = writing-more _ _ _ (g .accounts) a _ closing l closing-read (w .closed);
-          held = writing-more _ _ _ (g .accounts) a _ holding l holding-read (w .held);
+          paying = λ x has. let so-far = w .paying x has in record {
+            paid = writing-more _ _ _ (omega (arith, g .accounts, g .declared .accounts)) a r accounts l
+                (e ∙ rw (closing-read x has, holding-read x has) (ap (λ (v : Account). putAccount v (accountIn s a)) (settled-as has a l))) (so-far .paid);
+            closed = writing-more _ _ _ (g .accounts) a _ closing l (closing-read x has) (so-far .closed);
+            held = writing-more _ _ _ (g .accounts) a _ holding l (holding-read x has) (so-far .held);
+          };
         }
 
   pub paying-done : s .accountcount ≤ a → BooksIs s trades prices (record { accounts = accounts; closing = closing; holding = holding })
   paying-done l =
       record {
-        accounts = writing-done _ _ _ a accounts l (w .paid) ∙ sym (written-accounts (paidAccount s trades prices) (s .accounts) (s .accountcount) (omega (arith, g .accounts, g .declared .accounts)));
-        closing = writing-done _ _ _ a closing l (w .closed) ∙ written-padded _ _ 32 (pos 0);
-        holding = writing-done _ _ _ a holding l (w .held) ∙ written-padded _ _ 32 (pos 0);
+        books = λ x has. let done = w .paying x has in record {
+          accounts = writing-done _ _ _ a accounts l (done .paid) ∙ sym (written-accounts (settledAccount x) (s .accounts) (s .accountcount) (omega (arith, g .accounts, g .declared .accounts)));
+          closing = writing-done _ _ _ a closing l (done .closed) ∙ written-padded _ _ 32 (pos 0);
+          holding = writing-done _ _ _ a holding l (done .held) ∙ written-padded _ _ 32 (pos 0);
+        };
       }

@@ -15,17 +15,17 @@ use Rattle.rules.specs.declared.State.{State}
 use Rattle.dayprofit.specs.Slots.{slotOf}
 use Rattle.dayprofit.proofs.Gains.{Due}
 use Rattle.dayprofit.proofs.Slots.{slot-small, one-account, one-contract, one-side}
-use Rattle.settlement.specs.Settling.{holdingIn, AllDue}
+use Rattle.settlement.specs.Settling.{accountIn, heldBy, AllDue}
 
 abbrev startOf : Bool → Holding → ℕ
 startOf short h = pick short (h .startshort) (h .startlong)
 
 abbrev DueIn : State → List ℕ → List ℕ → ℕ → ℕ → Bool → Type 0
-DueIn s closed left a c short = Due closed left a c short (startOf short (holdingIn s a c))
+DueIn s closed left a c short = Due closed left a c short (startOf short (heldBy (accountIn s a) c))
 
 -- one slot is written: it is due, and what was due stays
 module _ (s : State) (closed left left′ : List ℕ) (room : length left ≡ 256) (a₀ c₀ : ℕ) (short₀ : Bool) (la₀ : a₀ < 32) (lc₀ : c₀ < 4)
-    (e : left′ ≡ set left (slotOf a₀ c₀ short₀) (getD closed (slotOf a₀ c₀ (not short₀)) 0 - startOf short₀ (holdingIn s a₀ c₀))) where
+    (e : left′ ≡ set left (slotOf a₀ c₀ short₀) (getD closed (slotOf a₀ c₀ (not short₀)) 0 - startOf short₀ (heldBy (accountIn s a₀) c₀))) where
   its-own : DueIn s closed left′ a₀ c₀ short₀
   its-own =
       let l : slotOf a₀ c₀ short₀ < length left = omega (arith, slot-small a₀ c₀ short₀ la₀ lc₀) in
@@ -66,8 +66,8 @@ pub dues-none : (s : State) (closed left : List ℕ) → length left ≡ 256 →
 dues-none s closed left h = record { within = omega arith; room = h; each = λ a c short lc l. absurd (omega arith) }
 
 module _ (s : State) (closed left left′ left″ : List ℕ) (k a₀ c₀ : ℕ) (w : Dues s closed left k) (l : k < 4 * s .accountcount) (few : s .accountcount ≤ 32) (lc₀ : c₀ < 4) (at : 4 * a₀ + c₀ ≡ k)
-    (e : left′ ≡ set left (slotOf a₀ c₀ false) (getD closed (slotOf a₀ c₀ true) 0 - holdingIn s a₀ c₀ .startlong))
-    (f : left″ ≡ set left′ (slotOf a₀ c₀ true) (getD closed (slotOf a₀ c₀ false) 0 - holdingIn s a₀ c₀ .startshort)) where
+    (e : left′ ≡ set left (slotOf a₀ c₀ false) (getD closed (slotOf a₀ c₀ true) 0 - heldBy (accountIn s a₀) c₀ .startlong))
+    (f : left″ ≡ set left′ (slotOf a₀ c₀ true) (getD closed (slotOf a₀ c₀ false) 0 - heldBy (accountIn s a₀) c₀ .startshort)) where
   la₀ : a₀ < 32
   la₀ = omega arith
 

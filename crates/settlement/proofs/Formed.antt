@@ -2,24 +2,20 @@
 -- closes that find their lots. Assumes nothing.
 use mathlib.Core.Bool.{true, false}
 use mathlib.Core.List.{List, [], _∷_}
-use mathlib.Core.Path.{_≡_, sym, ap, subst}
+use mathlib.Core.Path.{_≡_}
 use Prim.Native.Nat.{ℕ, _*_, _^_, _<_, _≤_}
-use native.Mathlib.Nat.{le-trans, le-of-eq}
 use native.Mathlib.Omega.{arith}
-use lib.IntN.{natAbs}
 use lib.ListN.{length, getD}
 use Rattle.laws.specs.Bound.{Within, within-abs}
 use Rattle.laws.specs.Choice.{allOf, allOf-at, both-true}
-use Rattle.rules.specs.Exchange.{Exchange, accountAt, noTrade}
+use Rattle.rules.specs.Exchange.{Exchange, listingAt, contractAt, holderAt, heldAt, noContract, noAccount, noHolding, noTrade}
 use Rattle.rules.specs.Memory.{Memory, Declared, exchangeOf, listingIn, recordedTrades, wellFormedMemory}
 use Rattle.rules.specs.Settlement.{dayStart, legs, settlementPrice}
 use Rattle.rules.specs.WellFormed.{tradeInRange}
-use Rattle.rules.specs.declared.Account.{Account}
-use Rattle.rules.specs.declared.Holding.{Holding}
 use Rattle.rules.specs.declared.State.{State}
 use Rattle.rules.specs.declared.Trade.{Trade}
 use Rattle.rules.proofs.Codecs.{length-trades}
-use Rattle.rules.proofs.InUse.{contracts-in-use, accounts-in-use, listing-in-use, account-in-use, holding-in-use}
+use Rattle.rules.proofs.InUse.{contracts-in-use, accounts-in-use, listing-in-use, holding-in-use}
 use Rattle.rules.proofs.Terms.{Terms, contract-terms}
 use Rattle.accounting.specs.DayLegs.{AllCovered}
 use Rattle.accounting.proofs.Facts.{trade-facts}
@@ -27,10 +23,9 @@ use Rattle.accounting.proofs.PriceBound.{settlement-price-bound}
 use Rattle.accounting.proofs.Replay.{replay-covered}
 use Rattle.invariants.proofs.Clauses.{HoldingOk, WellFormed, well-formed}
 use Rattle.invariants.proofs.MemoryRoom.{MemoryOk, memory-ok}
-use Rattle.margin.specs.Charge.{ChargeTerms, ChargeableIn, ChargeableAt}
+use Rattle.margin.specs.Charge.{ChargeableIn, ChargeableAt}
 use Rattle.dayprofit.specs.Day.{AllSized, SizedTrades, Quotes, Priceable}
 use Rattle.dayprofit.specs.Slots.{PlacedTrades}
-use Rattle.settlement.specs.Settling.{contractIn, accountIn, holdingIn}
 
 -- the arrays have room for the accounts in use
 pub accounts-declared : (m : Memory) → Declared (m .state) → wellFormedMemory m ≡ true → m .state .accountcount ≤ length (m .state .accounts)
@@ -71,12 +66,8 @@ module _ (m : Memory) (room : m .state .accountcount ≤ length (m .state .accou
     listed : c < length (exchangeOf m .listings)
     listed = rw (contracts-in-use m) lc
 
-    pub contract-at : Terms (contractIn s c)
-    unfolding listingIn
-    contract-at = contract-terms (contractIn s c) (rw (listing-in-use m c lc) at (contents .listing c listed .contract))
-
-    pub charge-terms : ChargeTerms (contractIn s c)
-    charge-terms = record { multiplier = contract-at .multiplier-high; reference = contract-at .reference .high; rate = contract-at .rate-high }
+    pub contract-at : Terms (listingAt (exchangeOf m) c .contract)
+    contract-at = contract-terms _ (contents .listing c listed .contract)
 
     pub quotes : Quotes (m .buys) (getD (s .buycounts) c 0) (m .sells) (getD (s .sellcounts) c 0) c
     quotes =
@@ -92,32 +83,31 @@ module _ (m : Memory) (room : m .state .accountcount ≤ length (m .state .accou
       known : a < length (exchangeOf m .accounts)
       known = rw accounts-counted la
 
-      its-holding : HoldingOk (listingIn m c) a (holdingIn s a c)
-      its-holding = rw (listing-in-use m c lc, holding-in-use m a c la lc) at (contents .holding a c known listed)
+      its-holding : HoldingOk (listingAt (exchangeOf m) c) a (heldAt (exchangeOf m) a c)
+      its-holding = contents .holding a c known listed
 
-      pub holding-starts : (holdingIn s a c .startlong ≤ 100_000) × (holdingIn s a c .startshort ≤ 100_000)
-      unfolding listingIn
+      pub holding-starts : (heldAt (exchangeOf m) a c .startlong ≤ 100_000) × (heldAt (exchangeOf m) a c .startshort ≤ 100_000)
       holding-starts = (omega (arith, its-holding .startlong, contract-at .limit-high), omega (arith, its-holding .startshort, contract-at .limit-high))
 
-      pub chargeable-in : ChargeableIn (contractIn s c) (m .buys) (getD (s .buycounts) c 0) (m .sells) (getD (s .sellcounts) c 0) c a (holdingIn s a c)
+      -- margin reads the state as it lies
+      chargeable-in : ChargeableIn (getD (s .contracts) c noContract) (m .buys) (getD (s .buycounts) c 0) (m .sells) (getD (s .sellcounts) c 0) c a (getD (getD (s .accounts) a noAccount .holdings) c noHolding)
       unfolding listingIn
       chargeable-in =
+          let terms = rw (listing-in-use m c lc) at contract-at in
+          let held = rw (listing-in-use m c lc, holding-in-use m a c la lc) at its-holding in
           record {
-            terms = charge-terms;
+            terms = record { multiplier = terms .multiplier-high; reference = terms .reference .high; rate = terms .rate-high };
             bids = its .counts .buys c lc;
             offers = its .counts .sells c lc;
             buyroom = quotes .buyroom;
             sellroom = quotes .sellroom;
-            long = omega (arith, its-holding .opens false, contract-at .limit-high);
-            short = omega (arith, its-holding .opens true, contract-at .limit-high);
+            long = omega (arith, held .opens false, terms .limit-high);
+            short = omega (arith, held .opens true, terms .limit-high);
           }
 
-      pub legs-covered : AllCovered (dayStart (contractIn s c .reference) (holdingIn s a c .startlong) (holdingIn s a c .startshort)) (legs a c (recordedTrades (m .trades) (s .tradecount)))
+      pub legs-covered : AllCovered (dayStart (contractAt (exchangeOf m) c .reference) (heldAt (exchangeOf m) a c .startlong) (heldAt (exchangeOf m) a c .startshort)) (legs a c (recordedTrades (m .trades) (s .tradecount)))
       unfolding exchangeOf
-      legs-covered =
-          subst (λ (h : Holding). AllCovered (dayStart (contractIn s c .reference) (h .startlong) (h .startshort)) (legs a c (recordedTrades (m .trades) (s .tradecount))))
-          (holding-in-use m a c la lc)
-          (replay-covered a c (exchangeOf m .accounts) (exchangeOf m .trades) (contractIn s c .reference) (contents .covered))
+      legs-covered = replay-covered a c (exchangeOf m .accounts) (exchangeOf m .trades) _ (contents .covered)
 
   -- an account's margin
   pub chargeable : (a : ℕ) → a < s .accountcount → ChargeableAt s (m .buys) (m .sells) a
@@ -149,16 +139,11 @@ module _ (m : Memory) (room : m .state .accountcount ≤ length (m .state .accou
       }
 
   pub priceable : (c : ℕ) → c < s .contractcount
-      → Priceable (contractIn s c) (m .buys) (getD (s .buycounts) c 0) (m .sells) (getD (s .sellcounts) c 0) (m .trades) (s .tradecount) c
-  priceable c lc = record { tick = contract-at c lc .tick-low; place = omega (arith, contracts-four); trades = sized-trades; quotes = quotes c lc }
+      → Priceable (getD (s .contracts) c noContract) (m .buys) (getD (s .buycounts) c 0) (m .sells) (getD (s .sellcounts) c 0) (m .trades) (s .tradecount) c
+  unfolding listingIn
+  priceable c lc = record { tick = (rw (listing-in-use m c lc) at (contract-at c lc)) .tick-low; place = omega (arith, contracts-four); trades = sized-trades; quotes = quotes c lc }
 
-  pub balance-within : (a : ℕ) → a < s .accountcount → Within (2 * 10 ^ 18) (accountIn s a .balance)
+  pub balance-within : (a : ℕ) → a < s .accountcount → Within (2 * 10 ^ 18) (holderAt (exchangeOf m) a .balance)
   balance-within a la =
-      let b : natAbs (accountIn s a .balance) ≤ 2 * 10 ^ 18 = le-trans (le-of-eq (ap (λ (v : Account). natAbs (v .balance)) (sym (account-in-use m a la)))) balance-high in
-      within-abs (accountIn s a .balance) (2 * 10 ^ 18) b
-    where
-      known : a < length (exchangeOf m .accounts)
-      known = rw accounts-counted la
-
-      balance-high : natAbs (accountAt (exchangeOf m .accounts) a .balance) ≤ 2 * 10 ^ 18
-      balance-high = omega (arith, contents .balance a known, contents .settlements)
+      let known : a < length (exchangeOf m .accounts) = rw accounts-counted la in
+      within-abs _ (2 * 10 ^ 18) (omega (arith, contents .balance a known, contents .settlements))

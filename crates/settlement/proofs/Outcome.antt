@@ -7,9 +7,8 @@ use Prim.Native.Nat.{ℕ, zero, suc, _+_, _<_, _≤_}
 use native.Mathlib.Nat.{le-trans, le-of-eq}
 use native.Mathlib.Omega.{arith}
 use borrow.Author.Tests.{leb-false}
-use lib.IntN.{ℤ, pos, _*ℤ_}
+use lib.IntN.{ℤ}
 use lib.ListN.{length, getD}
-use Rattle.laws.specs.Sums.{sumTo, sumTo-ext}
 use Rattle.laws.specs.Tabulate.{tabulate, length-tabulate, getD-tabulate, tabulate-below, map-tabulate}
 use Rattle.laws.specs.Written.{length-written}
 use Rattle.areas.specs.Lists.{padded}
@@ -17,42 +16,33 @@ use Rattle.areas.proofs.Lists.{getD-padded}
 use Rattle.rules.specs.Kinds.{codeOf, kindOf}
 use Rattle.rules.specs.Answers.{settleRefusals}
 use Rattle.rules.specs.Bounds.{maxSettlements}
-use Rattle.rules.specs.Exchange.{Exchange, Listing, noListing, listingAt, holdingAt}
+use Rattle.rules.specs.Exchange.{Exchange, Listing, noContract, noListing, listingAt}
 use Rattle.rules.specs.Margin as margin
 use Rattle.rules.specs.Memory.{Memory, exchangeOf, listingIn, put, putState, putFirst, putAccounts, putQueues, putTrades, wellFormedMemory, memory, written}
-use Rattle.rules.specs.Settlement.{dayOf, holdingGain, settlementPrice, closingProfit, holdingProfit, settledAccount, settledContract, settledListing, settled}
+use Rattle.rules.specs.Settlement.{settlementPrice, settledAccount, settledContract, settledListing, settled}
 use Rattle.rules.specs.Step.{settledAll}
 use Rattle.rules.specs.declared.Account.{Account}
 use Rattle.rules.specs.declared.Command.the-variants.{Settle}
 use Rattle.rules.specs.declared.Contract.{Contract}
-use Rattle.rules.specs.declared.Holding.{Holding}
 use Rattle.rules.specs.declared.Order.{Order}
 use Rattle.rules.specs.declared.State.{State}
-use Rattle.rules.proofs.InUse.{contracts-in-use, listing-in-use, account-in-use, holding-in-use}
+use Rattle.rules.proofs.InUse.{contracts-in-use, listing-in-use, account-in-use}
 use Rattle.rules.proofs.Refusals.{failed}
 use Rattle.invariants.proofs.MemoryKeeps.{accepted-read, accepted-keeps}
 use Rattle.invariants.proofs.MemoryRoom.{memory-ok}
-use Rattle.settlement.specs.Settling.{AllPriceable, pricesDue, Settleable, SettledIs, contractIn, holdingIn, dayIn, closingTo, holdingTo, AllPayable, paidAccount, BooksIs, AllClearable, ClearedAre, AllChargeable, ChargesAre, nextDay}
-use Rattle.dayprofit.specs.Sides.{dayOver}
+use Rattle.settlement.specs.Settling.{AllPriceable, pricesDue, Settleable, SettledIs, HasDay, AllPayable, BooksOf, BooksIs, AllClearable, ClearedAre, AllChargeable, ChargesAre, nextDay}
 use Rattle.settlement.proofs.Formed.{accounts-declared, contracts-four, accounts-few, contract-at, price-high, holding-starts, legs-covered, chargeable, sized-trades, placed-trades, balance-within, accounts-counted, priceable}
 use Rattle.settlement.proofs.Places.{written-accounts}
 
 -- ---- the state of the next day, from its parts
 
 pub next-day-is : (s : State) (accounts : List Account) (prices : List ℕ) (cs : List Contract) (buycounts sellcounts : List ℕ)
-    → cs ≡ putFirst (tabulate (s .contractcount) (λ c. settledContract (contractIn s c) (getD prices c 0))) (s .contracts)
+    → cs ≡ putFirst (tabulate (s .contractcount) (λ c. settledContract (getD (s .contracts) c noContract) (getD prices c 0))) (s .contracts)
     → buycounts ≡ putFirst (tabulate (s .contractcount) (λ c. 0)) (s .buycounts) → sellcounts ≡ putFirst (tabulate (s .contractcount) (λ c. 0)) (s .sellcounts)
     → record { contracts = cs; accounts = accounts; buycounts = buycounts; sellcounts = sellcounts; contractcount = s .contractcount; accountcount = s .accountcount; tradecount = 0; next = 1; nextstamp = 1; settlements = s .settlements + 1 }
     ≡ nextDay s accounts prices
 next-day-is s accounts prices cs buycounts sellcounts e f g =
     λ i. record { contracts = e i; accounts = accounts; buycounts = f i; sellcounts = g i; contractcount = s .contractcount; accountcount = s .accountcount; tradecount = 0; next = 1; nextstamp = 1; settlements = s .settlements + 1 }
-
--- ---- an account's day, by what stands at its places
-
-day-of : (x : Exchange) (l : Listing) (h : Holding) (a c : ℕ) → listingAt x c ≡ l → holdingAt (x .accounts) a c ≡ h
-    → dayOver (l .contract .reference) h a c (x .trades) ≡ dayOf x a c
-unfolding dayOf
-day-of x l h a c e f = sym (ap₂ (λ k g. dayOver (k .contract .reference) g a c (x .trades)) e f)
 
 -- ---- queues that agree are written alike
 
@@ -102,68 +92,45 @@ module _ (s : State) (buys sells trades : List ℕ) (g : Settleable s buys sells
       (getD-tabulate (s .contractcount) c (settlementPrice x) 0 lc)
 
   module _ (prices : List ℕ) (e : Prices prices) where
+    -- the state as it lies has the exchange's day
+    has-day : HasDay x s trades prices
+    unfolding exchangeOf listingIn
+    has-day =
+        record {
+          count = contracts-in-use m;
+          terms = λ c lc. ap (λ (l : Listing). l .contract) (listing-in-use m c lc);
+          price = λ c lc. sym (price-at prices e c lc);
+          holder = account-in-use m;
+          day = refl;
+        }
+
     pub all-payable : AllPayable s trades prices
     all-payable =
+        let formed = g .state .formed in
         record {
           declared = g .state .declared;
-          accounts = accounts-few m room (g .state .formed);
+          accounts = accounts-few m room formed;
           contracts = few-contracts;
-          balance = balance-within m room (g .state .formed);
-          day = placed-trades m room (g .state .formed);
-          each = λ a la. record {
-            account = omega (arith, accounts-few m room (g .state .formed));
-            contracts = few-contracts;
-            multiplier = λ c lc. contract-at m room (g .state .formed) c lc .multiplier-high;
-            each = λ c lc. record {
-              trades = sized-trades m room (g .state .formed);
-              reference = contract-at m room (g .state .formed) c lc .reference .high;
-              long = holding-starts m room (g .state .formed) c lc a la .0;
-              short = holding-starts m room (g .state .formed) c lc a la .1;
-              price = le-trans (le-of-eq (price-at prices e c lc)) (price-high m room (g .state .formed) c lc);
-              covered = legs-covered m room (g .state .formed) c lc a la;
-            };
+          placed = placed-trades m room formed;
+          exchange = x;
+          has = has-day;
+          balance = balance-within m room formed;
+          multiplier = λ c lc. contract-at m room formed c lc .multiplier-high;
+          each = λ a c la lc. record {
+            trades = sized-trades m room formed;
+            reference = contract-at m room formed c lc .reference .high;
+            long = holding-starts m room formed c lc a la .0;
+            short = holding-starts m room formed c lc a la .1;
+            price = price-high m room formed c lc;
+            covered = legs-covered m room formed c lc a la;
           };
         }
 
-    -- ---- profit
-
-    module _ (a : ℕ) (la : a < s .accountcount) where
-      same-day : (c : ℕ) → c < s .contractcount → dayIn s trades a c ≡ dayOf x a c
-      unfolding dayIn exchangeOf listingIn
-      same-day c lc = day-of x (listingIn m c) (holdingIn s a c) a c (listing-in-use m c lc) (holding-in-use m a c la lc)
-
-      same-multiplier : (c : ℕ) → c < s .contractcount → contractIn s c .multiplier ≡ listingAt x c .contract .multiplier
-      unfolding listingIn
-      same-multiplier c lc = ap (λ (l : Listing). l .contract .multiplier) (sym (listing-in-use m c lc))
-
-      closing-is : closingTo s trades a (s .contractcount) ≡ closingProfit x a
-      unfolding closingTo closingProfit
-      closing-is =
-          sumTo-ext (s .contractcount) (λ c. pos (contractIn s c .multiplier) *ℤ dayIn s trades a c .closing)
-          (λ c. pos (listingAt x c .contract .multiplier) *ℤ dayOf x a c .closing)
-          (λ c lc. rw (same-multiplier c lc, same-day c lc))
-          ∙ ap (λ (n : ℕ). sumTo n (λ c. pos (listingAt x c .contract .multiplier) *ℤ dayOf x a c .closing)) (sym (contracts-in-use m))
-
-      holding-is : holdingTo s trades prices a (s .contractcount) ≡ holdingProfit x a
-      unfolding holdingTo holdingProfit
-      holding-is =
-          sumTo-ext (s .contractcount) (λ c. pos (contractIn s c .multiplier) *ℤ holdingGain (getD prices c 0) (dayIn s trades a c))
-          (λ c. pos (listingAt x c .contract .multiplier) *ℤ holdingGain (settlementPrice x c) (dayOf x a c))
-          (λ c lc. rw (same-multiplier c lc, same-day c lc, price-at prices e c lc))
-          ∙ ap (λ (n : ℕ). sumTo n (λ c. pos (listingAt x c .contract .multiplier) *ℤ holdingGain (settlementPrice x c) (dayOf x a c))) (sym (contracts-in-use m))
-
-      paid-is : paidAccount s trades prices a ≡ settledAccount x a
-      unfolding settledAccount
-      paid-is = rw (account-in-use m a la, closing-is, holding-is)
-
     -- ---- the state
 
-    accounts-is : putAccounts (tabulate (s .accountcount) (paidAccount s trades prices)) (s .accounts) ≡ putAccounts (settled x .accounts) (s .accounts)
+    accounts-is : putAccounts (tabulate (s .accountcount) (settledAccount x)) (s .accounts) ≡ putAccounts (settled x .accounts) (s .accounts)
     unfolding settled
-    accounts-is =
-        ap (λ (l : List Account). putAccounts l (s .accounts))
-        (tabulate-below (s .accountcount) (paidAccount s trades prices) (settledAccount x) paid-is
-        ∙ ap (λ (n : ℕ). tabulate n (settledAccount x)) (sym (accounts-counted m room (g .state .formed))))
+    accounts-is = ap (λ (n : ℕ). putAccounts (tabulate n (settledAccount x)) (s .accounts)) (sym (accounts-counted m room (g .state .formed)))
 
     -- a field of the settled listings, contract by contract
     listed : {A : Type 0} (f : ℕ → A) (h : Listing → A) → ((c : ℕ) → c < s .contractcount → f c ≡ h (settledListing x c)) → tabulate (s .contractcount) f ≡ map h (settled x .listings)
@@ -173,7 +140,7 @@ module _ (s : State) (buys sells trades : List ℕ) (g : Settleable s buys sells
         ∙ ap (λ (n : ℕ). tabulate n (λ c. h (settledListing x c))) (sym (contracts-in-use m))
         ∙ sym (map-tabulate h (length (x .listings)) (settledListing x))
 
-    contract-is : (c : ℕ) → c < s .contractcount → settledContract (contractIn s c) (getD prices c 0) ≡ settledListing x c .contract
+    contract-is : (c : ℕ) → c < s .contractcount → settledContract (getD (s .contracts) c noContract) (getD prices c 0) ≡ settledListing x c .contract
     unfolding settledListing listingIn
     contract-is c lc = sym (ap₂ (λ l price. settledContract (l .contract) price) (listing-in-use m c lc) (sym (price-at prices e c lc)))
 
@@ -213,17 +180,20 @@ module _ (s : State) (buys sells trades : List ℕ) (g : Settleable s buys sells
         let q = getD-tabulate (length (x .listings)) c (settledListing x) noListing (rw (contracts-in-use m) lc) in
         (ap (λ (l : Listing). l .buys) q, ap (λ (l : Listing). l .sells) q)
 
-    module _ (accounts : List Account) (f : accounts ≡ putAccounts (tabulate (s .accountcount) (paidAccount s trades prices)) (s .accounts)) where
+    module _ (accounts : List Account) (closing holding : List ℤ) (b : BooksIs s trades prices (record { accounts = accounts; closing = closing; holding = holding })) where
+      books : BooksOf x s (record { accounts = accounts; closing = closing; holding = holding })
+      books = b .books x has-day
+
       state-is : nextDay s accounts prices ≡ putState s (settled x)
       unfolding putState
       state-is =
-          let cs : putFirst (tabulate (s .contractcount) (λ c. settledContract (contractIn s c) (getD prices c 0))) (s .contracts) ≡ putFirst (map (λ l. l .contract) (settled x .listings)) (s .contracts) =
-          ap (λ (l : List Contract). putFirst l (s .contracts)) (listed (λ c. settledContract (contractIn s c) (getD prices c 0)) (λ l. l .contract) contract-is) in
+          let cs : putFirst (tabulate (s .contractcount) (λ c. settledContract (getD (s .contracts) c noContract) (getD prices c 0))) (s .contracts) ≡ putFirst (map (λ l. l .contract) (settled x .listings)) (s .contracts) =
+          ap (λ (l : List Contract). putFirst l (s .contracts)) (listed (λ c. settledContract (getD (s .contracts) c noContract) (getD prices c 0)) (λ l. l .contract) contract-is) in
           let bs : putFirst (tabulate (s .contractcount) (λ c. 0)) (s .buycounts) ≡ putFirst (map (λ l. length (l .buys)) (settled x .listings)) (s .buycounts) =
           ap (λ (l : List ℕ). putFirst l (s .buycounts)) (listed (λ c. 0) (λ l. length (l .buys)) no-bids) in
           let os : putFirst (tabulate (s .contractcount) (λ c. 0)) (s .sellcounts) ≡ putFirst (map (λ l. length (l .sells)) (settled x .listings)) (s .sellcounts) =
           ap (λ (l : List ℕ). putFirst l (s .sellcounts)) (listed (λ c. 0) (λ l. length (l .sells)) no-offers) in
-          let as′ : accounts ≡ putAccounts (settled x .accounts) (s .accounts) = f ∙ accounts-is in
+          let as′ : accounts ≡ putAccounts (settled x .accounts) (s .accounts) = books .accounts ∙ accounts-is in
           λ i. record {
             contracts = cs i;
             accounts = as′ i;
@@ -268,7 +238,7 @@ module _ (s : State) (buys sells trades : List ℕ) (g : Settleable s buys sells
         room-after : s .accountcount ≤ length accounts
         room-after =
             le-trans room
-            (le-of-eq (sym (ap length f ∙ ap length (written-accounts (paidAccount s trades prices) (s .accounts) (s .accountcount) room) ∙ length-written _ (s .accounts) (s .accountcount) room)))
+            (le-of-eq (sym (ap length (books .accounts) ∙ ap length (written-accounts (settledAccount x) (s .accounts) (s .accountcount) room) ∙ length-written _ (s .accounts) (s .accountcount) room)))
 
         pub all-chargeable : (next : State) → next ≡ nextDay s accounts prices → AllChargeable next buys′ sells′
         all-chargeable next e =
@@ -283,14 +253,13 @@ module _ (s : State) (buys sells trades : List ℕ) (g : Settleable s buys sells
         charged-is charged k = k .charged trades′ ∙ ap (λ (y : Exchange). padded 32 0 (tabulate (s .accountcount) (margin.charged y))) read-after
 
         -- THE SETTLEMENT
-        pub settled-is : (next : State) (closing holding : List ℤ) (charged : List ℕ) → next ≡ nextDay s accounts prices
-            → BooksIs s trades prices (record { accounts = accounts; closing = closing; holding = holding }) → ChargesAre next buys′ sells′ charged
+        pub settled-is : (next : State) (charged : List ℕ) → next ≡ nextDay s accounts prices → ChargesAre next buys′ sells′ charged
             → SettledIs m (record { state = next; prices = prices; closing = closing; holding = holding; charged = charged }) buys′ sells′ trades′
-        settled-is next closing holding charged n b k =
+        settled-is next charged n k =
             record {
               memory = ap (λ (t : State). memory t buys′ sells′ trades′) n ∙ memory-is;
               prices = e;
-              closing = b .closing ∙ ap (padded 32 (pos 0)) (tabulate-below (s .accountcount) (λ a. closingTo s trades a (s .contractcount)) (closingProfit x) closing-is);
-              holding = b .holding ∙ ap (padded 32 (pos 0)) (tabulate-below (s .accountcount) (λ a. holdingTo s trades prices a (s .contractcount)) (holdingProfit x) holding-is);
+              closing = books .closing;
+              holding = books .holding;
               charged = charged-is charged (rw n at k);
             }

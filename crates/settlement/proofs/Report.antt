@@ -1,37 +1,32 @@
 -- What a settlement prints, in arrays with zeros past the counts: prices contract by contract, charged margin account by account.
 -- Assumes nothing.
 use mathlib.Core.List.{List}
-use mathlib.Core.Path.{_≡_, sym, ap, _∙_}
+use mathlib.Core.Path.{_≡_, refl, _∙_}
 use Prim.Native.Nat.{ℕ, _+_, _<_, _≤_}
 use lib.ListN.{getD, set, replicate}
 use Rattle.laws.specs.Tabulate.{tabulate}
 use Rattle.laws.specs.Written.{Writing, writing-none, writing-more, writing-done}
 use Rattle.areas.specs.Lists.{padded}
-use Rattle.rules.specs.Exchange.{Exchange, Listing, listingAt}
+use Rattle.rules.specs.Exchange.{noContract}
 use Rattle.rules.specs.Margin as margin
-use Rattle.rules.specs.Memory.{Memory, exchangeOf, listingIn, queueIn, recordedTrades, memory}
-use Rattle.rules.specs.Settlement.{priceFrom, tradesIn, settlementPrice}
+use Rattle.rules.specs.Memory.{Memory, exchangeOf, listingIn, memory}
+use Rattle.rules.specs.Settlement.{settlementPrice}
 use Rattle.rules.specs.declared.State.{State}
 use Rattle.rules.proofs.InUse.{listing-in-use}
+use Rattle.dayprofit.specs.Day.{PriceIs}
 use Rattle.margin.specs.Charge.{ChargedAt}
 use Rattle.margin.proofs.Charging.{charged-at}
-use Rattle.settlement.specs.Settling.{contractIn, AllChargeable, ChargesAre}
+use Rattle.settlement.specs.Settling.{AllChargeable, ChargesAre}
 use Rattle.settlement.proofs.Places.{written-padded}
 
 -- ---- prices
 
-price-of : (x : Exchange) (l : Listing) (c : ℕ) → listingAt x c ≡ l
-    → priceFrom (l .contract .tick) (l .contract .reference) (tradesIn c (x .trades)) (l .buys) (l .sells) ≡ settlementPrice x c
-unfolding settlementPrice
-price-of x l c e = sym (ap (λ k. priceFrom (k .contract .tick) (k .contract .reference) (tradesIn c (x .trades)) (k .buys) (k .sells)) e)
-
 -- the price by what stands in the state is the rules' price
 pub price-in-use : (m : Memory) (c : ℕ) → c < m .state .contractcount → (r : ℕ)
-    → r ≡ priceFrom (contractIn (m .state) c .tick) (contractIn (m .state) c .reference) (tradesIn c (recordedTrades (m .trades) (m .state .tradecount)))
-    (queueIn (m .buys) c (getD (m .state .buycounts) c 0)) (queueIn (m .sells) c (getD (m .state .sellcounts) c 0))
+    → PriceIs (getD (m .state .contracts) c noContract) (m .buys) (getD (m .state .buycounts) c 0) (m .sells) (getD (m .state .sellcounts) c 0) (m .trades) (m .state .tradecount) c r
     → r ≡ settlementPrice (exchangeOf m) c
 unfolding exchangeOf listingIn
-price-in-use m c lc r e = e ∙ price-of (exchangeOf m) (listingIn m c) c (listing-in-use m c lc)
+price-in-use m c lc r e = e (exchangeOf m) (listing-in-use m c lc) refl
 
 abbrev pub PricesSoFar : Memory → ℕ → List ℕ → Type 0
 PricesSoFar m c prices = Writing (settlementPrice (exchangeOf m)) (replicate 4 0) (m .state .contractcount) c prices

@@ -1,23 +1,29 @@
 -- An account's profit over the contracts, as a loop adds it up. Assumes nothing.
 use mathlib.Core.Bool.{true, false}
 use mathlib.Core.List.{List}
-use mathlib.Core.Path.{_≡_, refl, ap, _∙_}
+use mathlib.Core.Path.{_≡_, refl, sym, ap, ap₂, _∙_}
 use Prim.Native.Nat.{ℕ, _+_, _*_, _<_, _≤_}
 use native.Mathlib.Nat.{mul-le-mul-left}
 use native.Mathlib.Numerals.{add-one}
 use native.Mathlib.Omega.{arith}
 use lib.IntN.{ℤ, pos, _+ℤ_, _*ℤ_, *ℤ-comm}
+use lib.ListN.{length, getD}
+use lib.Seq.{getD-take}
 use mir.Syntax.{w64}
 use mir.Val.{SFits, toZ, ofZ}
 use Rattle.laws.specs.Bound.{Within, within-le, within-zero, within-add, within-times}
 use Rattle.laws.specs.Sums.{sumTo, sumTo-ext}
 use Rattle.laws.proofs.Signed.{back, total-fits, total-back}
+use Rattle.rules.specs.Exchange.{Exchange, contractAt, heldAt, holdingAt, noContract, noHolding}
 use Rattle.rules.specs.Memory.{recordedTrades}
+use Rattle.rules.specs.Settlement.{dayOf, holdingGain, settlementPrice, closingProfit, holdingProfit}
 use Rattle.rules.specs.declared.Account.{Account}
+use Rattle.rules.specs.declared.Contract.{Contract}
 use Rattle.rules.specs.declared.State.{State}
+use Rattle.dayprofit.specs.Sides.{Profitable}
 use Rattle.dayprofit.specs.Slots.{SumsAre, UsedAre, Rooms, DayFrom}
 use Rattle.dayprofit.proofs.Gains.{Summed, day-small, closing-by-slots, holding-by-slots}
-use Rattle.settlement.specs.Settling.{accountIn, contractIn, holdingIn, dayIn, closingTo, holdingTo, pricedIn, termsOf, priceOf, heldBy, closingIn, holdingPart, Totallable, TotalFrom, AllDue, AllPayable}
+use Rattle.settlement.specs.Settling.{accountIn, HasDay, pricedIn, termsOf, priceOf, heldBy, closingIn, holdingPart, Totallable, TotalFrom, AllDue, AllPayable}
 use Rattle.settlement.specs.declared.balances.Priced.{Priced}
 use Rattle.dayprofit.specs.declared.profit.Profit.{Profit}
 
@@ -131,11 +137,17 @@ module _ {holder : Account} {p : Priced} {closed closes opened opens used : List
 
 -- ---- the sums are the day's: an account's total is its profit by Article 32
 
+-- in any exchange with this day
 pub record TotalIs (s : State) (trades prices : List ℕ) (a : ℕ) (r : Profit) : Type 0 where
-  pub closing : r .closing ≡ closingTo s trades a (s .contractcount)
-  pub holding : r .holding ≡ holdingTo s trades prices a (s .contractcount)
+  pub closing : (x : Exchange) → HasDay x s trades prices → r .closing ≡ closingProfit x a
+  pub holding : (x : Exchange) → HasDay x s trades prices → r .holding ≡ holdingProfit x a
   pub closing-small : Within 16_000_000_000_000_000 (r .closing)
   pub holding-small : Within 16_000_000_000_000_000 (r .holding)
+
+held-at : {x : Exchange} {s : State} {trades prices : List ℕ} → HasDay x s trades prices → (a c : ℕ) → a < s .accountcount → c < s .contractcount
+    → heldAt x a c ≡ heldBy (accountIn s a) c
+unfolding holdingAt
+held-at {x} {s} has a c la lc = rw (has .holder a la) (getD-take (s .contractcount) (accountIn s a .holdings) c noHolding lc)
 
 -- what the code has added up of the day's legs, slot by slot
 pub record DaySums (s : State) (trades closed closes opened opens left used : List ℕ) : Type 0 where
@@ -155,29 +167,48 @@ module _ {s : State} {trades prices : List ℕ} (g : AllPayable s trades prices)
   few-contracts : (c : ℕ) → c < s .contractcount → c < 4
   few-contracts c lc = omega (arith, g .contracts)
 
+  profitable : (c : ℕ) → c < s .contractcount
+      → Profitable (getD (s .contracts) c noContract .reference) (heldBy (accountIn s a) c) a c trades (s .tradecount) (getD prices c 0)
+  profitable c lc = rw (g .has .terms c lc, held-at (g .has) a c la lc, g .has .price c lc) at (g .each a c la lc)
+
   totallable : Rooms closed closes opened opens used → Totallable (accountIn s a) (pricedIn s prices) closed closes opened opens used a
   totallable rooms =
       record {
         account = few-accounts;
         contracts = g .contracts;
-        multiplier = g .each a la .multiplier;
-        each = λ c lc. day-small trades (s .tradecount) closed closes opened opens left used day-sums a c few-accounts (few-contracts c lc) _ (holdingIn s a c) _
-            (g .each a la .each c lc) (d .due .long a c la (few-contracts c lc)) (d .due .short a c la (few-contracts c lc)) rooms;
+        multiplier = λ c lc. rw (g .has .terms c lc) at (g .multiplier c lc);
+        each = λ c lc. day-small trades (s .tradecount) closed closes opened opens left used day-sums a c few-accounts (few-contracts c lc) _ (heldBy (accountIn s a) c) _
+            (profitable c lc) (d .due .long a c la (few-contracts c lc)) (d .due .short a c la (few-contracts c lc)) rooms;
       }
 
-  times : (c : ℕ) (y z : ℤ) → y ≡ z → pos (contractIn s c .multiplier) *ℤ y ≡ pos (contractIn s c .multiplier) *ℤ z
-  times c y z e = rw e
+  module _ (x : Exchange) (has : HasDay x s trades prices) where
+    -- a sum over the state's contracts is one over the exchange's
+    over-contracts : (f g : ℕ → ℤ) → ((c : ℕ) → c < s .contractcount → f c ≡ g c)
+        → sumTo (s .contractcount) (λ c. pos (getD (s .contracts) c noContract .multiplier) *ℤ f c) ≡ sumTo (length (x .listings)) (λ c. pos (contractAt x c .multiplier) *ℤ g c)
+    over-contracts f g e =
+        rw (has .count) (sumTo-ext (s .contractcount) _ _ (λ c lc. ap₂ (λ (t : Contract) (z : ℤ). pos (t .multiplier) *ℤ z) (sym (has .terms c lc)) (e c lc)))
+
+    reference-is : (c : ℕ) → c < s .contractcount → contractAt x c .reference ≡ getD (s .contracts) c noContract .reference
+    reference-is c lc = ap (λ (t : Contract). t .reference) (has .terms c lc)
+
+    closing-profit : (w : ℤ) → w ≡ sumTo (s .contractcount) (closingTerm (accountIn s a) (pricedIn s prices) closed closes opened opens used a) → w ≡ closingProfit x a
+    unfolding closingProfit
+    closing-profit w e =
+        e ∙ over-contracts _ _ (λ c lc. closing-by-slots trades (s .tradecount) closed closes opened opens left used day-sums a c few-accounts (few-contracts c lc) _ (heldBy (accountIn s a) c) _
+        (profitable c lc) (d .due .long a c la (few-contracts c lc)) (d .due .short a c la (few-contracts c lc)) x (reference-is c lc) (held-at has a c la lc) (has .day))
+
+    holding-profit : (w : ℤ) → w ≡ sumTo (s .contractcount) (holdingTerm (accountIn s a) (pricedIn s prices) closed closes opened opens used a) → w ≡ holdingProfit x a
+    unfolding holdingProfit
+    holding-profit w e =
+        e ∙ over-contracts _ (λ c. holdingGain (settlementPrice x c) (dayOf x a c)) (λ c lc. holding-by-slots trades (s .tradecount) closed closes opened opens left used day-sums a c few-accounts (few-contracts c lc) _ (heldBy (accountIn s a) c) _
+        (profitable c lc) (d .due .long a c la (few-contracts c lc)) (d .due .short a c la (few-contracts c lc)) x (reference-is c lc) (held-at has a c la lc) (has .day)
+        ∙ ap (λ (p : ℕ). holdingGain p (dayOf x a c)) (sym (has .price c lc)))
 
   total-is : {r : Profit} → TotalFrom (accountIn s a) (pricedIn s prices) closed closes opened opens used a r → TotalIs s trades prices a r
-  unfolding closingTo holdingTo dayIn
   total-is w =
       record {
-        closing = w .closing ∙ sumTo-ext (s .contractcount) _ _ (λ c lc. times c _ _
-            (closing-by-slots trades (s .tradecount) closed closes opened opens left used day-sums a c few-accounts (few-contracts c lc) _ (holdingIn s a c) _
-            (g .each a la .each c lc) (d .due .long a c la (few-contracts c lc)) (d .due .short a c la (few-contracts c lc))));
-        holding = w .holding ∙ sumTo-ext (s .contractcount) _ _ (λ c lc. times c _ _
-            (holding-by-slots trades (s .tradecount) closed closes opened opens left used day-sums a c few-accounts (few-contracts c lc) _ (holdingIn s a c) _
-            (g .each a la .each c lc) (d .due .long a c la (few-contracts c lc)) (d .due .short a c la (few-contracts c lc))));
+        closing = λ x has. closing-profit x has _ (w .closing);
+        holding = λ x has. holding-profit x has _ (w .holding);
         closing-small = w .closing-small;
         holding-small = w .holding-small;
       }

@@ -3,7 +3,7 @@ use mathlib.Core.Bool.{true, false}
 use mathlib.Core.List.{List, [], map}
 use mathlib.Core.Path.{_≡_}
 use Prim.Native.Nat.{ℕ, _+_, _-_, _*_, _<_, _≤_}
-use lib.IntN.{ℤ, pos, _+ℤ_, _*ℤ_}
+use lib.IntN.{ℤ, pos, _*ℤ_}
 use lib.ListN.{length, getD, take}
 use Rattle.laws.specs.Bound.{Within}
 use Rattle.laws.specs.Sums.{sumTo}
@@ -11,10 +11,10 @@ use Rattle.laws.specs.Tabulate.{tabulate}
 use Rattle.areas.specs.Lists.{padded}
 use Rattle.rules.specs.Kinds.{codeOf}
 use Rattle.rules.specs.Bounds.{maxContracts, maxAccounts, maxResting, maxTrades, maxMultiplier, balanceMost}
-use Rattle.rules.specs.Exchange.{noAccount, noContract, noHolding}
+use Rattle.rules.specs.Exchange.{Exchange, contractAt, holderAt, heldAt, noAccount, noContract, noHolding}
 use Rattle.rules.specs.Margin as margin
-use Rattle.rules.specs.Memory.{Declared, Memory, exchangeOf, put, putAccounts, putFirst, putQueues, putTrades, recordedTrades, memory, WellFormedState, queueStride, tradeStride}
-use Rattle.rules.specs.Settlement.{Day, holdingGain, settlementPrice, closingProfit, holdingProfit, carriedHolding, settledContract, settled}
+use Rattle.rules.specs.Memory.{Declared, Memory, exchangeOf, inUse, put, putAccounts, putFirst, putQueues, putTrades, recordedTrades, memory, WellFormedState, queueStride, tradeStride}
+use Rattle.rules.specs.Settlement.{settlementPrice, closingProfit, holdingProfit, carriedHolding, settledAccount, settledContract, settled}
 use Rattle.rules.specs.declared.Account.{Account}
 use Rattle.rules.specs.declared.Command.the-variants.{Settle}
 use Rattle.rules.specs.declared.Contract.{Contract}
@@ -22,7 +22,7 @@ use Rattle.rules.specs.declared.Holding.{Holding}
 use Rattle.rules.specs.declared.State.{State}
 use Rattle.margin.specs.Charge.{ChargeableAt}
 use Rattle.dayprofit.specs.Day.{Priceable}
-use Rattle.dayprofit.specs.Sides.{dayOver, Profitable, sideFrom, closingFrom, holdingFrom, profitMost}
+use Rattle.dayprofit.specs.Sides.{Profitable, sideFrom, closingFrom, holdingFrom, profitMost}
 use Rattle.dayprofit.specs.Slots.{slotOf, PlacedTrades, sumsAt, DaySmall}
 use Rattle.dayprofit.specs.declared.profit.Profit.{Profit}
 use Rattle.dayprofit.specs.declared.profit.Side.{Side}
@@ -47,14 +47,8 @@ pub record SettledIs (m : Memory) (r : Settled) (buys sells trades : List ℕ) :
 
 -- ---- its parts, on the state as it lies
 
-abbrev pub contractIn : State → ℕ → Contract
-contractIn s c = getD (s .contracts) c noContract
-
 abbrev pub accountIn : State → ℕ → Account
 accountIn s a = getD (s .accounts) a noAccount
-
-abbrev pub holdingIn : State → ℕ → ℕ → Holding
-holdingIn s a c = getD (accountIn s a .holdings) c noHolding
 
 -- the settlement prices of the contracts in use, with zeros past their count
 abbrev pub pricesDue : State → List ℕ → List ℕ → List ℕ → List ℕ
@@ -64,25 +58,15 @@ pricesDue s buys sells trades = padded maxContracts 0 (tabulate (s .contractcoun
 pub record AllPriceable (s : State) (buys sells trades : List ℕ) : Type 0 where
   pub few : s .contractcount ≤ maxContracts
   pub each : (c : ℕ) → c < s .contractcount
-      → Priceable (contractIn s c) buys (getD (s .buycounts) c 0) sells (getD (s .sellcounts) c 0) trades (s .tradecount) c
+      → Priceable (getD (s .contracts) c noContract) buys (getD (s .buycounts) c 0) sells (getD (s .sellcounts) c 0) trades (s .tradecount) c
 
--- an account's day in a contract
-unfoldable pub dayIn : State → List ℕ → ℕ → ℕ → Day
-dayIn s trades a c = dayOver (contractIn s c .reference) (holdingIn s a c) a c (recordedTrades trades (s .tradecount))
-
--- its profit over the first n contracts
-unfoldable pub closingTo : State → List ℕ → ℕ → ℕ → ℤ
-closingTo s trades a n = sumTo n (λ c. pos (contractIn s c .multiplier) *ℤ dayIn s trades a c .closing)
-
-unfoldable pub holdingTo : State → List ℕ → List ℕ → ℕ → ℕ → ℤ
-holdingTo s trades prices a n = sumTo n (λ c. pos (contractIn s c .multiplier) *ℤ holdingGain (getD prices c 0) (dayIn s trades a c))
-
--- all that an account's profit is worked out from
-pub record Payable (s : State) (trades prices : List ℕ) (a : ℕ) : Type 0 where
-  pub account : a < maxAccounts
-  pub contracts : s .contractcount ≤ maxContracts
-  pub multiplier : (c : ℕ) → c < s .contractcount → contractIn s c .multiplier ≤ maxMultiplier
-  pub each : (c : ℕ) → c < s .contractcount → Profitable (contractIn s c .reference) (holdingIn s a c) a c trades (s .tradecount) (getD prices c 0)
+-- an exchange whose contracts and accounts in use, trades and settlement prices are these
+pub record HasDay (x : Exchange) (s : State) (trades prices : List ℕ) : Type 0 where
+  pub count : length (x .listings) ≡ s .contractcount
+  pub terms : (c : ℕ) → c < s .contractcount → contractAt x c ≡ getD (s .contracts) c noContract
+  pub price : (c : ℕ) → c < s .contractcount → settlementPrice x c ≡ getD prices c 0
+  pub holder : (a : ℕ) → a < s .accountcount → holderAt x a ≡ inUse (s .contractcount) (accountIn s a)
+  pub day : x .trades ≡ recordedTrades trades (s .tradecount)
 
 -- the contracts in use as they are settled: their terms and settlement prices
 abbrev pub pricedIn : State → List ℕ → Priced
@@ -128,31 +112,35 @@ pub record TotalFrom (holder : Account) (p : Priced) (closed closes opened opens
 
 -- the lots that the closes of each account in use took of today's: start-of-day lots go first
 pub record AllDue (s : State) (closed left : List ℕ) : Type 0 where
-  pub long : (a c : ℕ) → a < s .accountcount → c < maxContracts → getD left (slotOf a c false) 0 ≡ getD closed (slotOf a c true) 0 - holdingIn s a c .startlong
-  pub short : (a c : ℕ) → a < s .accountcount → c < maxContracts → getD left (slotOf a c true) 0 ≡ getD closed (slotOf a c false) 0 - holdingIn s a c .startshort
+  pub long : (a c : ℕ) → a < s .accountcount → c < maxContracts → getD left (slotOf a c false) 0 ≡ getD closed (slotOf a c true) 0 - heldBy (accountIn s a) c .startlong
+  pub short : (a c : ℕ) → a < s .accountcount → c < maxContracts → getD left (slotOf a c true) 0 ≡ getD closed (slotOf a c false) 0 - heldBy (accountIn s a) c .startshort
 
 -- an account with a new balance: "holdings become start-of-day"
 abbrev pub carriedAccount : Account → ℕ → ℤ → Account
 carriedAccount a contracts balance = record { balance = balance; maker = a .maker; holdings = map carriedHolding (take contracts (a .holdings)) }
 
--- "The balance takes both."
-abbrev pub paidAccount : State → List ℕ → List ℕ → ℕ → Account
-paidAccount s trades prices a =
-    carriedAccount (accountIn s a) (s .contractcount)
-    (accountIn s a .balance +ℤ (closingTo s trades a (s .contractcount) +ℤ holdingTo s trades prices a (s .contractcount)))
-
+-- all that the accounts' profit is worked out from: an exchange with this day, its values in range
 pub record AllPayable (s : State) (trades prices : List ℕ) : Type 0 where
   pub declared : Declared s
   pub accounts : s .accountcount ≤ maxAccounts
   pub contracts : s .contractcount ≤ maxContracts
-  pub balance : (a : ℕ) → a < s .accountcount → Within balanceMost (accountIn s a .balance)
-  pub each : (a : ℕ) → a < s .accountcount → Payable s trades prices a
-  pub day : PlacedTrades trades (s .tradecount)
+  pub placed : PlacedTrades trades (s .tradecount)
+  pub exchange : Exchange
+  pub has : HasDay exchange s trades prices
+  pub balance : (a : ℕ) → a < s .accountcount → Within balanceMost (holderAt exchange a .balance)
+  pub multiplier : (c : ℕ) → c < s .contractcount → contractAt exchange c .multiplier ≤ maxMultiplier
+  pub each : (a c : ℕ) → a < s .accountcount → c < s .contractcount
+      → Profitable (contractAt exchange c .reference) (heldAt exchange a c) a c trades (s .tradecount) (settlementPrice exchange c)
 
+-- the accounts after a settlement of the exchange, and each one's profit
+pub record BooksOf (x : Exchange) (s : State) (r : Books) : Type 0 where
+  pub accounts : r .accounts ≡ putAccounts (tabulate (s .accountcount) (settledAccount x)) (s .accounts)
+  pub closing : r .closing ≡ padded maxAccounts (pos 0) (tabulate (s .accountcount) (closingProfit x))
+  pub holding : r .holding ≡ padded maxAccounts (pos 0) (tabulate (s .accountcount) (holdingProfit x))
+
+-- of any exchange with this day
 pub record BooksIs (s : State) (trades prices : List ℕ) (r : Books) : Type 0 where
-  pub accounts : r .accounts ≡ putAccounts (tabulate (s .accountcount) (paidAccount s trades prices)) (s .accounts)
-  pub closing : r .closing ≡ padded maxAccounts (pos 0) (tabulate (s .accountcount) (λ a. closingTo s trades a (s .contractcount)))
-  pub holding : r .holding ≡ padded maxAccounts (pos 0) (tabulate (s .accountcount) (λ a. holdingTo s trades prices a (s .contractcount)))
+  pub books : (x : Exchange) → HasDay x s trades prices → BooksOf x s r
 
 -- the queues of the contracts in use, in room for them
 pub record Clearable (area cs : List ℕ) (n : ℕ) : Type 0 where
@@ -184,7 +172,7 @@ pub record ChargesAre (s : State) (buys sells : List ℕ) (r : List ℕ) : Type 
 abbrev pub nextDay : State → List Account → List ℕ → State
 nextDay s accounts prices =
     record {
-      contracts = putFirst (tabulate (s .contractcount) (λ c. settledContract (contractIn s c) (getD prices c 0))) (s .contracts);
+      contracts = putFirst (tabulate (s .contractcount) (λ c. settledContract (getD (s .contracts) c noContract) (getD prices c 0))) (s .contracts);
       accounts = accounts;
       buycounts = putFirst (tabulate (s .contractcount) (λ c. 0)) (s .buycounts);
       sellcounts = putFirst (tabulate (s .contractcount) (λ c. 0)) (s .sellcounts);

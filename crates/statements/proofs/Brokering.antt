@@ -14,7 +14,7 @@ use Rattle.laws.specs.Tabulate.{tabulate, getD-tabulate}
 use Rattle.areas.specs.Records.{store}
 use Rattle.areas.proofs.Records.{length-store, records-store}
 use Rattle.rules.specs.Bounds.{maxTrades, maxContracts, maxLimit}
-use Rattle.rules.specs.Exchange.{Exchange, accountAt, holdingAt, noAccount, noHolding, noTrade}
+use Rattle.rules.specs.Exchange.{Exchange, accountAt, contractAt, holdingAt, listingAt, noAccount, noHolding, noTrade}
 use Rattle.rules.specs.Memory.{Memory, exchangeOf, listingIn, recordedTrades, tradeWords, used, wellFormedMemory, memory, tradeStride, tradesWords}
 use Rattle.rules.specs.WellFormed.{tradeInRange}
 use Rattle.rules.specs.declared.State.{State}
@@ -168,6 +168,11 @@ module _ (s : State) (buys sells trades : List ℕ) (a clients : ℕ) (starts : 
         ap (λ (k : ℕ). used k clientPlaces (tabulate clientPlaces (clientAccount b))) (sym contracts-are) in
         λ i. record { listings = x .listings; accounts = e i; trades = t i; next = s .next; nextstamp = s .nextstamp; settlements = s .settlements }
 
+    -- its contracts are the day's
+    same-terms : (c : ℕ) → contractAt (clientsDay s buys sells area starts clients) c ≡ contractAt x c
+    unfolding clientsDay exchangeOf listingAt listingIn
+    same-terms c = refl
+
     each-booked : (i : ℕ) → i < count → Booked n clientPlaces (getD (recordedTrades area count) i noTrade)
     unfolding exchangeOf
     each-booked i l =
@@ -194,7 +199,7 @@ module _ (s : State) (buys sells trades : List ℕ) (a clients : ℕ) (starts : 
           each = each-booked;
           lots = lots;
           legs-are = e ∙ ap legCount (sym trades-are);
-          terms = λ c lc. (contract-at m room formed c lc .multiplier-high, contract-at m room formed c lc .reference .high);
+          terms = λ c lc. let t = contract-at m room formed c lc in rw (same-terms c) (t .multiplier-high, t .reference .high);
           priceable = λ c lc. let q = priceable m room formed c lc in record { tick = q .tick; place = q .place; trades = sized; quotes = q .quotes };
           prices = λ c lc. rw (day-is, same-price b x a c) (price-high m room formed c lc);
         }

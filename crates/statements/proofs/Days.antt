@@ -2,33 +2,30 @@
 -- nothing.
 use mathlib.Core.Bool.{true, false}
 use mathlib.Core.List.{List}
-use mathlib.Core.Path.{_≡_, refl, sym, ap, ap₂, _∙_, subst}
+use mathlib.Core.Path.{_≡_, refl, sym, ap, ap₂, _∙_}
 use Prim.Native.Nat.{ℕ, _+_, _*_, _<_, _≤_}
 use native.Mathlib.Nat.{mul-assoc, mul-comm}
 use native.Mathlib.Omega.{arith}
-use lib.IntN.{ℤ, pos, _*ℤ_}
+use lib.IntN.{ℤ, pos}
 use lib.ListN.{length, getD, length-append}
 use Rattle.laws.specs.Bound.{within-pos}
-use Rattle.laws.specs.Sums.{sumTo, sumTo-ext}
 use Rattle.laws.specs.Tabulate.{tabulate, length-tabulate, getD-tabulate}
 use Rattle.areas.specs.Lists.{over, padded}
 use Rattle.areas.proofs.Lists.{getD-padded}
 use Rattle.rules.specs.Bounds.{maxAccounts, maxContracts, maxLimit}
 use Rattle.rules.specs.DayFile.{countWidth}
-use Rattle.rules.specs.Exchange.{Exchange, Listing, accountAt, holdingAt, listingAt, noAccount, noTrade}
+use Rattle.rules.specs.Exchange.{Exchange, Listing, accountAt, contractAt, heldAt, holderAt, holdingAt, listingAt, noAccount, noContract, noTrade}
 use Rattle.rules.specs.Holdings.{bookTrades, neverBelowZero, startOfDay}
-use Rattle.rules.specs.Memory.{Declared, exchangeOf, listingIn, recordedTrades, used, memory}
-use Rattle.rules.specs.Settlement.{Day, closingProfit, dayOf, dayStart, afterLegs, legs, holdingGain, holdingProfit, settlementPrice}
+use Rattle.rules.specs.Memory.{Declared, exchangeOf, inUse, listingIn, recordedTrades, used, memory}
+use Rattle.rules.specs.Settlement.{closingProfit, dayStart, legs, holdingProfit, settlementPrice}
 use Rattle.rules.specs.declared.Account.{Account}
-use Rattle.rules.specs.declared.Contract.{Contract}
-use Rattle.rules.specs.declared.Holding.{Holding}
 use Rattle.rules.specs.declared.State.{State}
 use Rattle.rules.specs.declared.Trade.{Trade}
 use Rattle.rules.proofs.Codecs.{length-trades}
-use Rattle.rules.proofs.InUse.{contracts-in-use, listing-in-use, used-holding}
+use Rattle.rules.proofs.InUse.{contracts-in-use, listing-in-use, used-at, used-holding}
 use Rattle.accounting.specs.DayLegs.{AllCovered}
 use Rattle.accounting.proofs.Replay.{replay-covered}
-use Rattle.settlement.specs.Settling.{AllPayable, BooksIs, accountIn, closingTo, contractIn, dayIn, holdingIn, holdingTo, pricesDue}
+use Rattle.settlement.specs.Settling.{AllPayable, BooksIs, HasDay, accountIn, pricesDue}
 use Rattle.settlement.specs.declared.balances.Books.{Books}
 use Rattle.endian.proofs.Writes.{length-four}
 use Rattle.sections.specs.Sections.{holdingBytes, holdingWidth, holdingsBytes, inRow}
@@ -114,7 +111,7 @@ module _ {s : State} {buys sells area starts : List ℕ} {clients legs′ : ℕ}
   unfolding clientsDay
   contracts-are = contracts-in-use (memory s buys sells area)
 
-  contract-is : (c : ℕ) → c < n → listingAt y c .contract ≡ contractIn s c
+  contract-is : (c : ℕ) → c < n → contractAt y c ≡ getD (s .contracts) c noContract
   unfolding clientsDay listingAt exchangeOf listingIn
   contract-is c lc = ap (λ (l : Listing). l .contract) (listing-in-use (memory s buys sells area) c lc)
 
@@ -132,50 +129,39 @@ module _ {s : State} {buys sells area starts : List ℕ} {clients legs′ : ℕ}
 
   -- ---- a client's day
 
-  holding-is : (k c : ℕ) → k < clientPlaces → c < n → holdingIn cs k c ≡ holdingAt (y .accounts) k c
-  unfolding holdingAt accountAt
-  holding-is k c lk lc = sym (used-holding n clientPlaces accounts k c lk lc) ∙ ap (λ (l : List Account). holdingAt l k c) accounts-of
+  client-is : (k : ℕ) → k < clientPlaces → holderAt y k ≡ inUse n (accountIn cs k)
+  unfolding accountAt
+  client-is k lk = ap (λ (l : List Account). accountAt l k) (sym accounts-of) ∙ used-at n clientPlaces accounts k lk
 
-  day-is : (k c : ℕ) → k < clientPlaces → c < n → dayIn cs area k c ≡ dayOf y k c
-  unfolding dayIn dayOf clientsDay
-  day-is k c lk lc =
-      ap₂ (λ (r : ℕ) (h : Holding). afterLegs (dayStart r (h .startlong) (h .startshort)) (legs k c ts))
-      (sym (ap (λ (t : Contract). t .reference) (contract-is c lc))) (holding-is k c lk lc)
-
-  closing-is : (k : ℕ) → k < clientPlaces → closingTo cs area k n ≡ closingProfit y k
-  unfolding closingTo closingProfit
-  closing-is k lk =
-      sumTo-ext n _ (λ c. pos (listingAt y c .contract .multiplier) *ℤ dayOf y k c .closing)
-      (λ c lc. ap₂ (λ (t : Contract) (d : Day). pos (t .multiplier) *ℤ d .closing) (sym (contract-is c lc)) (day-is k c lk lc))
-      ∙ ap (λ (m : ℕ). sumTo m (λ c. pos (listingAt y c .contract .multiplier) *ℤ dayOf y k c .closing)) (sym contracts-are)
-
-  holding-profit-is : (k : ℕ) → k < clientPlaces → holdingTo cs area (pricesDue cs buys sells area) k n ≡ holdingProfit y k
-  unfolding holdingTo holdingProfit
-  holding-profit-is k lk =
-      sumTo-ext n _ (λ c. pos (listingAt y c .contract .multiplier) *ℤ holdingGain (settlementPrice y c) (dayOf y k c))
-      (λ c lc. ap₂ (λ (t : Contract) (z : ℤ). pos (t .multiplier) *ℤ z) (sym (contract-is c lc)) (ap₂ holdingGain (price-is c lc) (day-is k c lk lc)))
-      ∙ ap (λ (m : ℕ). sumTo m (λ c. pos (listingAt y c .contract .multiplier) *ℤ holdingGain (settlementPrice y c) (dayOf y k c))) (sym contracts-are)
+  -- the clients' state has their exchange's day
+  has-day : HasDay y cs area (pricesDue cs buys sells area)
+  unfolding clientsDay
+  has-day =
+      record {
+        count = contracts-are;
+        terms = contract-is;
+        price = λ c lc. sym (price-is c lc);
+        holder = λ k lk. client-is k (omega (arith, g .few));
+        day = refl;
+      }
 
   -- ---- what paying the clients asks for
 
   module _ (covered : neverClosesMore y ≡ true) where
-    day-covered : (k c : ℕ) → k < clientPlaces → c < n → AllCovered (dayStart (contractIn s c .reference) (holdingIn cs k c .startlong) (holdingIn cs k c .startshort)) (legs k c ts)
+    day-covered : (k c : ℕ) → AllCovered (dayStart (contractAt y c .reference) (heldAt y k c .startlong) (heldAt y k c .startshort)) (legs k c ts)
     unfolding neverClosesMore clientsDay
-    day-covered k c lk lc =
-        subst (λ (h : Holding). AllCovered (dayStart (contractIn s c .reference) (h .startlong) (h .startshort)) (legs k c ts))
-        (sym (holding-is k c lk lc))
-        (replay-covered k c (y .accounts) (y .trades) (contractIn s c .reference) covered)
+    day-covered k c = replay-covered k c (y .accounts) (y .trades) _ covered
 
-    lots-small : (k c : ℕ) → k < clientPlaces → c < n → (holdingIn cs k c .startlong ≤ maxLimit) × (holdingIn cs k c .startshort ≤ maxLimit)
-    unfolding holdingAt accountAt
-    lots-small k c lk lc = rw (client-at k c lk lc) (g .lots k c lk lc)
+    lots-small : (k c : ℕ) → k < clientPlaces → c < n → (heldAt y k c .startlong ≤ maxLimit) × (heldAt y k c .startshort ≤ maxLimit)
+    unfolding clientsDay
+    lots-small k c lk lc = rw (used-holding n clientPlaces (tabulate clientPlaces (clientAccount (clientsWith clients starts))) k c lk lc) (g .lots k c lk lc)
 
     account-is : (k : ℕ) → k < maxAccounts → accountIn cs k ≡ clientAccount (clientsWith clients starts) k
     account-is k lk = ap (λ (l : List Account). getD l k noAccount) e ∙ getD-tabulate maxAccounts k (clientAccount (clientsWith clients starts)) noAccount lk
 
-    no-balance : (k : ℕ) → k < maxAccounts → accountIn cs k .balance ≡ pos 0
+    no-balance : (k : ℕ) → k < clientPlaces → holderAt y k .balance ≡ pos 0
     unfolding clientAccount
-    no-balance k lk = ap (λ (a : Account). a .balance) (account-is k lk)
+    no-balance k lk = ap (λ (a : Account). a .balance) (client-is k lk ∙ ap (inUse n) (account-is k (omega arith)))
 
     four-holdings : (k : ℕ) → k < maxAccounts → length (accountAt accounts k .holdings) ≡ maxContracts
     unfolding clientAccount accountAt tabulate
@@ -198,23 +184,21 @@ module _ {s : State} {buys sells area starts : List ℕ} {clients legs′ : ℕ}
           declared = declared;
           accounts = omega (arith, g .few);
           contracts = g .contracts;
-          balance = λ k lk. rw (no-balance k (omega (arith, g .few))) (within-pos (omega arith));
-          day = record {
+          placed = record {
             trades = g .sized;
             placed = λ i li. let b = g .each i li in record { contract = omega (arith, b .contract, g .contracts); buyer = omega (arith, b .buyer); seller = omega (arith, b .seller) };
           };
-          each = λ k lk. record {
-            account = omega (arith, g .few);
-            contracts = g .contracts;
-            multiplier = λ c lc. g .terms c lc .0;
-            each = λ c lc. record {
-              trades = g .priceable c lc .trades;
-              reference = g .terms c lc .1;
-              long = lots-small k c (omega (arith, g .few)) lc .0;
-              short = lots-small k c (omega (arith, g .few)) lc .1;
-              price = rw (price-is c lc) (g .prices c lc);
-              covered = day-covered k c (omega (arith, g .few)) lc;
-            };
+          exchange = y;
+          has = has-day;
+          balance = λ k lk. rw (no-balance k (omega (arith, g .few))) (within-pos (omega arith));
+          multiplier = λ c lc. g .terms c lc .0;
+          each = λ k c lk lc. record {
+            trades = g .sized;
+            reference = g .terms c lc .1;
+            long = lots-small k c (omega (arith, g .few)) lc .0;
+            short = lots-small k c (omega (arith, g .few)) lc .1;
+            price = g .prices c lc;
+            covered = day-covered k c;
           };
         }
 
@@ -270,8 +254,8 @@ module _ {s : State} {buys sells area starts : List ℕ} {clients legs′ : ℕ}
     profits-told =
         row-ext _ (λ k. profitBytes (closingProfit y k) (holdingProfit y k)) clients
         (λ k lk. ap₂ profitBytes
-        (ap (λ (l : List ℤ). getD l k (pos 0)) (w .closing) ∙ paid-at (λ a. closingTo cs area a n) k lk ∙ closing-is k (omega (arith, g .few)))
-        (ap (λ (l : List ℤ). getD l k (pos 0)) (w .holding) ∙ paid-at (λ a. holdingTo cs area (pricesDue cs buys sells area) a n) k lk ∙ holding-profit-is k (omega (arith, g .few))))
+        (ap (λ (l : List ℤ). getD l k (pos 0)) (w .books y has-day .closing) ∙ paid-at (closingProfit y) k lk)
+        (ap (λ (l : List ℤ). getD l k (pos 0)) (w .books y has-day .holding) ∙ paid-at (holdingProfit y) k lk))
 
     told-is : told ts legs′ (h .accounts) (r .closing) (r .holding) clients n ≡ statementOf y clients
     unfolding statementOf clientsDay

@@ -11,14 +11,14 @@ use Rattle.laws.specs.Tabulate.{tabulate}
 use Rattle.areas.specs.Lists.{over}
 use Rattle.rules.specs.Answers.{firstOf}
 use Rattle.rules.specs.Bounds.{maxTrades, maxContracts, maxPrice, maxMultiplier, maxLimit}
-use Rattle.rules.specs.Exchange.{Exchange, holdingAt, noTrade}
+use Rattle.rules.specs.Exchange.{Exchange, contractAt, holdingAt, noContract, noTrade}
 use Rattle.rules.specs.Memory.{Declared, Memory, exchangeOf, recordedTrades, used, WellFormedState, memory, tradeStride}
 use Rattle.rules.specs.Settlement.{settlementPrice}
 use Rattle.rules.specs.declared.Account.{Account}
 use Rattle.rules.specs.declared.State.{State}
 use Rattle.rules.specs.declared.Trade.{Trade}
 use Rattle.dayprofit.specs.Day.{Priceable, SizedTrades}
-use Rattle.settlement.specs.Settling.{AllPayable, AllPriceable, contractIn, pricesDue}
+use Rattle.settlement.specs.Settling.{AllPayable, AllPriceable, pricesDue}
 use Rattle.replaying.specs.Parts.{Booked}
 use Rattle.sections.specs.Sections.{holdingsBytes, inRow, section}
 use Rattle.clients.specs.Parts.{clientsWith}
@@ -107,9 +107,10 @@ pub record Brokered (s : State) (buys sells area starts : List ℕ) (clients leg
       → (holdingAt (tabulate clientPlaces (clientAccount (clientsWith clients starts))) k c .startlong ≤ maxLimit)
       × (holdingAt (tabulate clientPlaces (clientAccount (clientsWith clients starts))) k c .startshort ≤ maxLimit)
   pub legs-are : legs ≡ legCount (recordedTrades area (s .tradecount))
-  pub terms : (c : ℕ) → c < s .contractcount → (contractIn s c .multiplier ≤ maxMultiplier) × (contractIn s c .reference ≤ maxPrice)
+  pub terms : (c : ℕ) → c < s .contractcount
+      → (contractAt (clientsDay s buys sells area starts clients) c .multiplier ≤ maxMultiplier) × (contractAt (clientsDay s buys sells area starts clients) c .reference ≤ maxPrice)
   pub priceable : (c : ℕ) → c < s .contractcount
-      → Priceable (contractIn s c) buys (getD (s .buycounts) c 0) sells (getD (s .sellcounts) c 0) area (s .tradecount) c
+      → Priceable (getD (s .contracts) c noContract) buys (getD (s .buycounts) c 0) sells (getD (s .sellcounts) c 0) area (s .tradecount) c
   pub prices : (c : ℕ) → c < s .contractcount → settlementPrice (clientsDay s buys sells area starts clients) c ≤ maxPrice
 
 -- the account exists, there are few enough clients, and their starting lots add up

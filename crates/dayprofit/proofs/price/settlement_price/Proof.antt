@@ -1,7 +1,7 @@
 -- `dayprofit::price::settlement_price` meets its contract: the quotes where nothing traded, else the weighted price. Assumes nothing.
 use native.Mathlib.Omega.{arith}
 use Rattle.dayprofit.proofs.Trading.{contract-sized}
-use Rattle.dayprofit.proofs.Quoting.{price-quoted, price-weighted, turnover-low}
+use Rattle.dayprofit.proofs.Quoting.{price-in, price-quoted, price-weighted, turnover-low}
 use Rattle.dayprofit.proofs.price.settlement_price.Statement.{statement}
 use Rattle.dayprofit.proofs.price.settlement_price.Tie as tie
 
@@ -15,13 +15,13 @@ quoted-requires : tie.Need-quoted-requires
 quoted-requires c κs = c .before .before .before .before .before .pre .quotes
 
 returns : tie.Need-returns
-returns c = price-quoted _ _ _ _ _ _ _ (contract-sized _ _ _ (c .before .before .before .before .before .before .pre .trades)) (c .before .before .traded .ensures) (c .before .if1 .taken) (c .quoted .ensures)
+returns c = price-in _ _ _ _ _ _ _ _ _ (price-quoted _ _ _ _ _ _ _ (contract-sized _ _ _ (c .before .before .before .before .before .before .pre .trades)) (c .before .before .traded .ensures) (c .before .if1 .taken) (c .quoted .ensures))
 
 weighted-requires : tie.Need-weighted-requires
 weighted-requires c κs = (omega arith, omega arith, turnover-low _ _ (contract-sized _ _ _ (c .before .before .before .before .before .pre .trades)) (c .before .traded .ensures))
 
 returns-2 : tie.Need-returns-2
-returns-2 c = price-weighted _ _ _ _ _ _ _ (c .before .before .traded .ensures) (c .before .if1 .left) (c .weighted .ensures)
+returns-2 c = price-in _ _ _ _ _ _ _ _ _ (price-weighted _ _ _ _ _ _ _ (c .before .before .traded .ensures) (c .before .if1 .left) (c .weighted .ensures))
 
 pub settlement-price-spec : {M : Type 1} → statement M
 settlement-price-spec =

@@ -5,7 +5,7 @@ use Prim.Native.Nat.{_-_, _<_}
 use native.Mathlib.Omega.{arith}
 use borrow.Author.Needs.{needs}
 use Rattle.rules.specs.Bounds.{maxAccounts}
-use Rattle.settlement.proofs.Carrying.{Paying, paying-none, closing-reach, holding-reach, paying-more, paying-done}
+use Rattle.settlement.proofs.Carrying.{Paying, balance-at, paying-none, closing-reach, holding-reach, paying-more, paying-done}
 use Rattle.settlement.proofs.Totals.{DaySummed, day-summed}
 use Rattle.settlement.proofs.balances.all_paid.Statement.{statement}
 use Rattle.settlement.proofs.balances.all_paid.Tie as tie
@@ -60,7 +60,7 @@ paid-requires c κs =
     let inv = now .before .loop .inv in
     let gained = inv .0 .total _ (now .loop-test .taken) (c .before .before .total .ensures) in
     let pre = inv .0 .payable in
-    (pre .contracts, pre .balance _ (now .loop-test .taken), closing-reach pre (inv .1) gained, holding-reach pre (inv .1) gained)
+    (pre .contracts, balance-at pre (now .loop-test .taken), closing-reach pre (inv .1) gained, holding-reach pre (inv .1) gained)
 
 loop-again : tie.Need-loop-again Inv-loop μ-loop
 loop-again c =
@@ -77,7 +77,7 @@ all-paid-spec =
     μ-loop
     (λ c. search needs)
     (λ c. search needs)
-    (λ c κs. (c .before .before .before .pre .day, refl, refl))  -- add-up-requires
+    (λ c κs. (c .before .before .before .pre .placed, refl, refl))  -- add-up-requires
     (λ c. search needs)
     (λ c. search needs)
     (λ c κs. (search needs, refl, refl))  -- add-up-requires-2

@@ -19,7 +19,7 @@ next-day-requires c κs = let start = c .before .before .before .before .before 
 charges-requires : tie.Need-charges-requires
 charges-requires c κs =
     let paid = c .before .before .before .before .before .before .before .before .before .before .before .before .before .before .before .before in
-    all-chargeable _ _ _ _ (paid .before .before .before .before .before .before .before .before .before .pre) _ (paid .before .before .prices-due .ensures) _ (paid .all-paid .ensures .accounts) _ _ _ (c .before .before .before .before .before .before .before .before .before .clear-areas .ensures) _ (c .before .before .next-day .ensures)
+    all-chargeable _ _ _ _ (paid .before .before .before .before .before .before .before .before .before .pre) _ (paid .before .before .prices-due .ensures) _ _ _ (paid .all-paid .ensures) _ _ _ (c .before .before .before .before .before .before .before .before .before .clear-areas .ensures) _ (c .before .before .next-day .ensures)
 
 same-length : tie.Need-same-length
 same-length c = search needs
@@ -33,8 +33,8 @@ same-length-3 c = search needs
 returns : tie.Need-returns
 returns c =
     let paid = c .before .before .before .before .before .before .before .before .before .before .before .before .before .before .before .before .before in
-    settled-is _ _ _ _ (paid .before .before .before .before .before .before .before .before .before .pre) _ (paid .before .before .prices-due .ensures) _ (paid .all-paid .ensures .accounts) _ _ _ (c .before .before .before .before .before .before .before .before .before .before .clear-areas .ensures) _ _ _ _
-    (c .before .before .before .next-day .ensures) (paid .all-paid .ensures) (c .charges .ensures)
+    settled-is _ _ _ _ (paid .before .before .before .before .before .before .before .before .before .pre) _ (paid .before .before .prices-due .ensures) _ _ _ (paid .all-paid .ensures) _ _ _ (c .before .before .before .before .before .before .before .before .before .before .clear-areas .ensures) _ _
+    (c .before .before .before .next-day .ensures) (c .charges .ensures)
 
 pub settle-spec : {M : Type 1} → statement M
 settle-spec =
