@@ -28,10 +28,11 @@ use Rattle.rules.proofs.Lessened.{fits, less-all, less-length, less-sorted, les
 use Rattle.rules.proofs.Stages.{Each}
 use Rattle.rules.proofs.Refusals.{Failed, both-zero, failed, present}
 use Rattle.invariants.proofs.Clauses.{ListingOk, HoldingOk, MarksOk, WellFormed, Counted, order-ok, order-test}
-use Rattle.invariants.proofs.Insert.{entered-counted, entered-keeps}
+use Rattle.invariants.proofs.Insert.{entry-counted, entry-keeps}
 use Rattle.invariants.proofs.InsertAccepted.{Given, Passes, both-failed, close-lots, open-lots}
+use Rattle.invariants.proofs.InsertListing.{Enterable}
 use Rattle.invariants.proofs.InsertQueues.{order-fewer}
-use Rattle.invariants.proofs.Marks.{Marks, allowed-unmarked, markOf, mark-dropped, marks-left, no-mark}
+use Rattle.invariants.proofs.Marks.{allowed-unmarked, markOf, mark-dropped, marks-left, no-mark}
 use Rattle.invariants.proofs.Numbers.{KeptByLots, all-uses, occurs, once-count, uses, usesIn}
 use Rattle.invariants.proofs.OneListing.{relisted-counted, relisted-keeps}
 use Rattle.invariants.proofs.Removal.{removed-counted, removed-keeps}
@@ -302,16 +303,16 @@ module _ (x : Exchange) (w : WellFormed x) (k : Asked) (e : firstOf (changeRefus
           room = λ g full. absurd (omega (arith, has-room n, full));
         }
 
-    pub no-mark-left : Counted x → Marks (gone x k) 0 (arriving x k)
-    no-mark-left n = no-mark (gone x k) gone-keeps (arriving x k) (passes n .account) (passes n .contract)
+    pub reenters : Counted x → Enterable (gone x k) number 0 (x .next) (arriving x k)
+    reenters n = record { formed = gone-keeps; given = given; passes = passes n; marks = no-mark (gone x k) gone-keeps (arriving x k) (passes n .account) (passes n .contract) }
 
     lost-keeps : Counted x → WellFormed (exchangeAfter (gone x k) (arriving x k) (reentered x k) (x .next))
     unfolding reentered
-    lost-keeps n = entered-keeps (gone x k) gone-keeps number 0 (x .next) given (arriving x k) (passes n) (no-mark-left n)
+    lost-keeps n = entry-keeps (reenters n)
 
     lost-counted : Counted x → Counted (exchangeAfter (gone x k) (arriving x k) (reentered x k) (x .next))
     unfolding reentered
-    lost-counted n = entered-counted (gone x k) gone-keeps number 0 (x .next) given (arriving x k) (passes n) (no-mark-left n) (gone-counted n)
+    lost-counted n = entry-counted (reenters n) (gone-counted n)
 
   -- ---- the place kept
 

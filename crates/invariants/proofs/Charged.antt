@@ -1,7 +1,7 @@
 -- WHAT AN ACCOUNT IS CHARGED AFTER A STEP in one contract: no more than before, the lots of an open of its own included. A trade moves
 -- a resting open into the holding, or takes off what it closes; orders that go are charged no longer. Assumes nothing.
 use mathlib.Core.Bool.{Bool, true, false}
-use mathlib.Core.List.{List, [], _∷_}
+use mathlib.Core.List.{List, _∷_}
 use mathlib.Core.Path.{_≡_, refl, sym, ap, ap₂, subst⁻¹, _∙_}
 use Prim.Native.Nat.{ℕ, zero, suc, _+_, _*_, _<_, _≤_}
 use native.Mathlib.Nat.{le-refl, mul-le-mul-left}
@@ -25,12 +25,9 @@ use Rattle.rules.specs.declared.Trade.{Trade}
 use Rattle.rules.proofs.Holdings.{other-holding}
 use Rattle.rules.proofs.LotsIncluded.{more-lots, no-lots}
 use Rattle.rules.proofs.Sweep.{ofContract}
-use Rattle.invariants.proofs.Clauses.{WellFormed}
 use Rattle.invariants.proofs.Insert.{account, accountsAfter, after, arrived, contractLimit, its-trades, kept-after, kept-before, lots-swept, mine, mineAfter, others, place, Before}
-use Rattle.invariants.proofs.InsertAccepted.{Given, Passes}
-use Rattle.invariants.proofs.InsertListing.{contractAfter, own-is}
+use Rattle.invariants.proofs.InsertListing.{Enterable, contractAfter, own-is}
 use Rattle.invariants.proofs.Legs.{KeptAt, opensFor, resting-cons}
-use Rattle.invariants.proofs.Marks.{Marks}
 use Rattle.invariants.proofs.SweptHoldings.{Fewer}
 
 -- ---- a step in one contract: its listing is replaced, and trades in it are booked
@@ -112,42 +109,39 @@ within-bound : (sell : Bool) (contract : Contract) (mine others : List Order) (c
 unfolding chargedLots
 within-bound sell contract mine others c bound accounts a k = omega (arith, k .buy-opens, k .sell-opens)
 
-module _ (x : Exchange) (k : WellFormed x) (number quote next : ℕ) (g : Given x number next) (o : NewOrder) (p : Passes x number o)
-    (z : Marks x quote o) where
+module _ {x : Exchange} {number quote next : ℕ} {o : NewOrder} (entry : Enterable x number quote next o) where
   -- the arriving lots that count for an account: its own open's
   abbrev pub arriving : ℕ → ℕ
-  arriving a = opensFor a (account x k number quote next g o p z) (mark (o .close)) (o .lots)
+  arriving a = opensFor a (account entry) (mark (o .close)) (o .lots)
 
   abbrev bound : ℕ → ℕ
-  bound a = chargedLotsWith (listingOf x o) a (holdingAt (x .accounts) a (place x k number quote next g o p z)) (o .sell) (arriving a)
+  bound a = chargedLotsWith (listingOf x o) a (holdingAt (x .accounts) a (place entry)) (o .sell) (arriving a)
 
-  arrived-opens : (a : ℕ) → restingOpens a (arrived x k number quote next g o p z ∷ mine x k number quote next g o p z) ≡ arriving a + restingOpens a (mine x k number quote next g o p z)
+  arrived-opens : (a : ℕ) → restingOpens a (arrived entry ∷ mine entry) ≡ arriving a + restingOpens a (mine entry)
   unfolding takerOf remainder
-  arrived-opens a = resting-cons 0 a (arrived x k number quote next g o p z) (mine x k number quote next g o p z)
+  arrived-opens a = resting-cons 0 a (arrived entry) (mine entry)
 
-  before-bound : Before x k number quote next g o p z bound
+  before-bound : Before entry bound
   before-bound a l =
-      bounded (o .sell) (listingOf x o) (place x k number quote next g o p z) (contractLimit x k number quote next g o p z a) (arriving a) (x .accounts) a
-      (arrived x k number quote next g o p z) (arrived-opens a) (kept-before x k number quote next g o p z a l)
+      bounded (o .sell) (listingOf x o) (place entry) (contractLimit entry a) (arriving a) (x .accounts) a
+      (arrived entry) (arrived-opens a) (kept-before entry a l)
 
-  lots-after : (a : ℕ) → a < length (x .accounts) →
-      chargedLots (after x k number quote next g o p z) a (holdingAt (accountsAfter x k number quote next g o p z) a (place x k number quote next g o p z)) ≤ bound a
+  lots-after : (a : ℕ) → a < length (x .accounts) → chargedLots (after entry) a (holdingAt (accountsAfter entry) a (place entry)) ≤ bound a
   unfolding listingAfter
   lots-after a l =
-      rw (own-is x k number quote next g o p z)
-      (within-bound (o .sell) (contractAfter x k number quote next g o p z) (mineAfter x k number quote next g o p z) (lots-swept x k number quote next g o p z .rest)
-      (place x k number quote next g o p z) (bound a) (accountsAfter x k number quote next g o p z) a (kept-after x k number quote next g o p z bound before-bound a l))
+      rw (own-is entry)
+      (within-bound (o .sell) (contractAfter entry) (mineAfter entry) (lots-swept entry .rest)
+      (place entry) (bound a) (accountsAfter entry) a (kept-after entry bound before-bound a l))
 
-  relisted : Relisted x (place x k number quote next g o p z) (after x k number quote next g o p z) (lots-swept x k number quote next g o p z .trades)
+  relisted : Relisted x (place entry) (after entry) (lots-swept entry .trades)
       (exchangeAfter x o (enteredOf x number quote o) next)
   unfolding exchangeAfter listingAfter listingOf
-  relisted = record { there = p .contract; listings = refl; accounts = refl; here = its-trades x k number quote next g o p z; charge-same = refl }
+  relisted = record { there = entry .passes .contract; listings = refl; accounts = refl; here = its-trades entry; charge-same = refl }
 
   -- WHAT IS CHARGED AFTER AN ORDER IS ENTERED is at most what was with its lots included
-  pub entered-charged : (a : ℕ) → a < length (x .accounts) →
-      charged (exchangeAfter x o (enteredOf x number quote o) next) a
-      ≤ includedTo x a (place x k number quote next g o p z) (o .sell) (arriving a) (length (x .listings))
+  pub entered-charged : (a : ℕ) → a < length (x .accounts) → charged (exchangeAfter x o (enteredOf x number quote o) next) a
+      ≤ includedTo x a (place entry) (o .sell) (arriving a) (length (x .listings))
   unfolding listingOf
   entered-charged a l =
-      relisted-charged x (place x k number quote next g o p z) (after x k number quote next g o p z) (lots-swept x k number quote next g o p z .trades)
+      relisted-charged x (place entry) (after entry) (lots-swept entry .trades)
       (exchangeAfter x o (enteredOf x number quote o) next) relisted a (o .sell) (arriving a) (lots-after a l)

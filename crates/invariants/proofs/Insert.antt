@@ -34,7 +34,7 @@ use Rattle.rules.proofs.Sweep.{ofContract, swept-contract}
 use Rattle.invariants.proofs.Carry.{Allows}
 use Rattle.invariants.proofs.Clauses.{held, HoldingOk, MarksOk, WellFormed, Counted}
 use Rattle.invariants.proofs.InsertAccepted.{Given, Passes, next-given, numbered, passes}
-use Rattle.invariants.proofs.InsertListing.{allows-last, mark-low, contractOf, swept, rested, own-is, sides, last-on-tick, tick-low, contractAfter, rested-left, listing-after}
+use Rattle.invariants.proofs.InsertListing.{Enterable, allows-last, mark-low, contractOf, swept, rested, own-is, sides, last-on-tick, tick-low, contractAfter, rested-left, listing-after}
 use Rattle.invariants.proofs.InsertQueues.{rested-sum, rested-length, rested-length-one, rested-fewer}
 use Rattle.invariants.proofs.Legs.{resting-cons, KeptAt}
 use Rattle.invariants.proofs.Marks.{Marks, no-mark, rested-marks, swept-marks}
@@ -120,10 +120,9 @@ one-more used value once unused n = by-value (eqb n value) refl
         rw e (omega arith)
     by-value false e = rw e (omega (arith, once-count used once n))
 
-module _ (x : Exchange) (k : WellFormed x) (number quote next : ℕ) (g : Given x number next) (o : NewOrder) (p : Passes x number o)
-    (z : Marks x quote o) where
+module _ {x : Exchange} {number quote next : ℕ} {o : NewOrder} (entry : Enterable x number quote next o) where
   abbrev pub lots-swept : Swept
-  lots-swept = swept x k number quote next g o p z
+  lots-swept = swept entry
 
   abbrev pub arrived : Order
   arrived = remainder (takerOf x number quote o) (limitOf (o .condition)) (o .lots)
@@ -142,16 +141,16 @@ module _ (x : Exchange) (k : WellFormed x) (number quote next : ℕ) (g : Given 
 
   holding-before : (a : ℕ) → a < length (x .accounts) → HoldingOk (listingOf x o) a (holdingAt (x .accounts) a place)
   unfolding listingOf
-  holding-before a l = k .holding a place l (p .contract)
+  holding-before a l = entry .formed .holding a place l (entry .passes .contract)
 
   opens-start : (a : ℕ) → a < length (x .accounts) →
-      held (o .sell) (holdingAt (x .accounts) a place) + restingOpens a (arrived ∷ mine) ≤ contractOf x k number quote next g o p z .limit
+      held (o .sell) (holdingAt (x .accounts) a place) + restingOpens a (arrived ∷ mine) ≤ contractOf entry .limit
   unfolding takerOf remainder
   opens-start a l =
       rw (resting-cons 0 a arrived mine)
       (own-opens (eqb account a) (o .close) (o .lots) (held (o .sell) (holdingAt (x .accounts) a place)) (restingOpens a mine)
-      (contractOf x k number quote next g o p z .limit) (holding-before a l .opens (o .sell))
-      (λ e q. rw (← eqb-true account a e) (p .opens q)))
+      (contractOf entry .limit) (holding-before a l .opens (o .sell))
+      (λ e q. rw (← eqb-true account a e) (entry .passes .opens q)))
 
   closes-start : (a : ℕ) → a < length (x .accounts) → restingCloses a (arrived ∷ mine) ≤ held (not (o .sell)) (holdingAt (x .accounts) a place)
   unfolding takerOf remainder
@@ -159,14 +158,14 @@ module _ (x : Exchange) (k : WellFormed x) (number quote next : ℕ) (g : Given 
       rw (resting-cons 1 a arrived mine)
       (own-closes (eqb account a) (o .close) (o .lots) (held (not (o .sell)) (holdingAt (x .accounts) a place)) (restingCloses a mine)
       (holding-before a l .closes (o .sell))
-      (λ e q. rw (← eqb-true account a e) (p .closes q)))
+      (λ e q. rw (← eqb-true account a e) (entry .passes .closes q)))
 
   -- each account's lots, the arriving ones included, are within a bound of its own
   abbrev pub Before : (ℕ → ℕ) → Type 0
   Before limit = KeptBy (o .sell) (length (x .accounts)) limit place (x .accounts) (arrived ∷ mine) others
 
   abbrev pub contractLimit : ℕ → ℕ
-  contractLimit a = contractOf x k number quote next g o p z .limit
+  contractLimit a = contractOf entry .limit
 
   pub kept-before : Before contractLimit
   kept-before a l = kept-by (o .sell) (listingOf x o) place (x .accounts) a arrived (holding-before a l) (opens-start a l) (closes-start a l)
@@ -179,9 +178,9 @@ module _ (x : Exchange) (k : WellFormed x) (number quote next : ℕ) (g : Given 
       (λ e. SweptKept (length (x .accounts)) limit (limitOf (o .condition)) (takerOf x number quote o) mine (x .accounts) (o .lots)
       (record { trades = e .trades; rest = e .opposite }))
       (λ e. untouched-kept (length (x .accounts)) limit (limitOf (o .condition)) (takerOf x number quote o) mine (x .accounts) (o .lots) others kept)
-      (λ e. swept-kept (length (x .accounts)) limit (limitOf (o .condition)) (x .next) (x .nextstamp) (contractOf x k number quote next g o p z) (takerOf x number quote o) mine
-      (p .account) (mark-low (o .close))
-      (o .lots) (contractOf x k number quote next g o p z .last) others (x .accounts) (sides x k number quote next g o p z .others-orders) kept)
+      (λ e. swept-kept (length (x .accounts)) limit (limitOf (o .condition)) (x .next) (x .nextstamp) (contractOf entry) (takerOf x number quote o) mine
+      (entry .passes .account) (mark-low (o .close))
+      (o .lots) (contractOf entry .last) others (x .accounts) (sides entry .others-orders) kept)
 
   -- ---- the parts of the state after it
 
@@ -192,71 +191,71 @@ module _ (x : Exchange) (k : WellFormed x) (number quote next : ℕ) (g : Given 
   accountsAfter = bookTrades (x .accounts) (lots-swept .trades)
 
   abbrev pub mineAfter : List Order
-  mineAfter = restLots (takerOf x number quote o) (limitOf (o .condition)) (rested x k number quote next g o p z) mine
+  mineAfter = restLots (takerOf x number quote o) (limitOf (o .condition)) (rested entry) mine
 
   pub kept-after : (limit : ℕ → ℕ) → Before limit → KeptBy (o .sell) (length (x .accounts)) limit place accountsAfter mineAfter (lots-swept .rest)
   unfolding takerOf
   kept-after limit kept =
       fewer-by (o .sell) (length (x .accounts)) limit place accountsAfter
       (remainder (takerOf x number quote o) (limitOf (o .condition)) (o .lots - tradedLots (lots-swept .trades)) ∷ mine) mineAfter (lots-swept .rest) (lots-swept .rest)
-      (rested-fewer (takerOf x number quote o) (limitOf (o .condition)) (rested x k number quote next g o p z) (o .lots - tradedLots (lots-swept .trades)) mine
-      (rested-left x k number quote next g o p z)) (λ close b. omega arith) (swept-holdings limit kept .kept)
+      (rested-fewer (takerOf x number quote o) (limitOf (o .condition)) (rested entry) (o .lots - tradedLots (lots-swept .trades)) mine
+      (rested-left entry)) (λ close b. omega arith) (swept-holdings limit kept .kept)
 
   holding-after : (a : ℕ) → a < length (x .accounts) → HoldingOk after a (holdingAt accountsAfter a place)
   unfolding listingAfter
   holding-after a l =
       let s = booked-start-holding (x .accounts) (lots-swept .trades) a place in
       let q = holding-before a l in
-      rw (own-is x k number quote next g o p z)
-      (holding-by (o .sell) (contractAfter x k number quote next g o p z) mineAfter (lots-swept .rest) place accountsAfter a
+      rw (own-is entry)
+      (holding-by (o .sell) (contractAfter entry) mineAfter (lots-swept .rest) place accountsAfter a
       (rw (ap (λ (h : Holding). h .startlong) s) (q .startlong)) (rw (ap (λ (h : Holding). h .startshort) s) (q .startshort))
       (kept-after contractLimit kept-before a l))
 
   -- the quote marks: one more, if it is marked
   marks-before : (sell : Bool) → MarksOk (x .accounts) (own sell (listingOf x o))
   unfolding listingOf
-  marks-before = k .marks place (p .contract)
+  marks-before = entry .formed .marks place (entry .passes .contract)
 
   others-marks : MarksOk (x .accounts) (lots-swept .rest)
   unfolding restWhole enter
   others-marks =
       entered-either x number quote o (λ e. MarksOk (x .accounts) (e .opposite)) (λ a. other (o .sell))
-      (λ a. swept-marks (x .accounts) (takerOf x number quote o) (o .lots) (contractOf x k number quote next g o p z .last) others (other (o .sell)))
+      (λ a. swept-marks (x .accounts) (takerOf x number quote o) (o .lots) (contractOf entry .last) others (other (o .sell)))
     where
       other : (b : Bool) → MarksOk (x .accounts) (opposite b (listingOf x o))
       other true = marks-before false
       other false = marks-before true
 
-  mine-marks : MarksOk (x .accounts) (restLots (takerOf x number quote o) (limitOf (o .condition)) (rested x k number quote next g o p z) mine)
+  mine-marks : MarksOk (x .accounts) mineAfter
   unfolding takerOf
   mine-marks =
-      rested-marks (x .accounts) (takerOf x number quote o) (limitOf (o .condition)) (rested x k number quote next g o p z) mine (z .allowed) (z .single) (marks-before (o .sell))
+      rested-marks (x .accounts) (takerOf x number quote o) (limitOf (o .condition)) (rested entry) mine (entry .marks .allowed) (entry .marks .single) (marks-before (o .sell))
 
   marks-after : (sell : Bool) → MarksOk (x .accounts) (own sell after)
   unfolding listingAfter
-  marks-after = rw (own-is x k number quote next g o p z) (each-side (MarksOk (x .accounts)) (o .sell) _ _ mine-marks others-marks)
+  marks-after = rw (own-is entry) (each-side (MarksOk (x .accounts)) (o .sell) _ _ mine-marks others-marks)
 
   -- the values of a field: one more, that of the order entered, if a remainder rests
   module _ (field : Order → ℕ) (kept : KeptByLots field) where
-    mine-uses : (n : ℕ) → uses field n (restLots (takerOf x number quote o) (limitOf (o .condition)) (rested x k number quote next g o p z) mine) ≤ pick (eqb n (field arrived)) 1 0 + uses field n mine
+    mine-uses : (n : ℕ) → uses field n mineAfter ≤ pick (eqb n (field arrived)) 1 0 + uses field n mine
     unfolding uses remainder
     mine-uses n =
-        rw (← kept arrived (rested x k number quote next g o p z) .0)
-        (rested-sum (takerOf x number quote o) (limitOf (o .condition)) (λ r. pick (eqb n (field r)) 1 0) (rested x k number quote next g o p z) mine)
+        rw (← kept arrived (rested entry) .0)
+        (rested-sum (takerOf x number quote o) (limitOf (o .condition)) (λ r. pick (eqb n (field r)) 1 0) (rested entry) mine)
 
     others-uses : (n : ℕ) → uses field n (lots-swept .rest) ≤ uses field n others
     unfolding uses restWhole enter
     others-uses n =
         entered-either x number quote o (λ e. uses field n (e .opposite) ≤ uses field n others) (λ e. omega arith)
-        (λ e. rest-sum (λ r. pick (eqb n (field r)) 1 0) (λ r m low high. rw (kept r m .0) (le-refl _)) (takerOf x number quote o) (o .lots) (contractOf x k number quote next g o p z .last) others)
+        (λ e. rest-sum (λ r. pick (eqb n (field r)) 1 0) (λ r m low high. rw (kept r m .0) (le-refl _)) (takerOf x number quote o) (o .lots) (contractOf entry .last) others)
 
     uses-after : (n : ℕ) → usesIn field n after ≤ usesIn field n (listingOf x o) + pick (eqb n (field arrived)) 1 0
     unfolding usesIn listingAfter
     uses-after n =
-        rw (own-is x k number quote next g o p z)
+        rw (own-is entry)
         (omega (
           arith,
-          uses-by field n (o .sell) (restLots (takerOf x number quote o) (limitOf (o .condition)) (rested x k number quote next g o p z) mine) (lots-swept .rest),
+          uses-by field n (o .sell) mineAfter (lots-swept .rest),
           own-uses field n (o .sell) (listingOf x o),
           mine-uses n,
           others-uses n,
@@ -271,16 +270,16 @@ module _ (x : Exchange) (k : WellFormed x) (number quote next : ℕ) (g : Given 
   abbrev afterwards : Exchange
   afterwards = withTrades x place after (lots-swept .trades) next (x .nextstamp + 1)
 
-  allows-here : Allows (contractOf x k number quote next g o p z) (after .contract)
+  allows-here : Allows (contractOf entry) (after .contract)
   unfolding listingAfter
-  allows-here = allows-last (contractOf x k number quote next g o p z) _
+  allows-here = allows-last (contractOf entry) _
 
   -- the orders that it meets have other numbers
   others-numbers : allOf (λ r. not (eqb number (r .number))) others ≡ true
   unfolding listingOf listingAt
   others-numbers =
       unused-others number (o .sell) (listingOf x o)
-      (omega (arith, g .unused, all-uses numberOf number (x .listings), sumOf-at (usesIn numberOf number) (x .listings) place noListing (p .contract)))
+      (omega (arith, entry .given .unused, all-uses numberOf number (x .listings), sumOf-at (usesIn numberOf number) (x .listings) place noListing (entry .passes .contract)))
 
   new-trades : allOf (tradeInRange afterwards) (lots-swept .trades) ≡ true
   unfolding takerOf listingOf restWhole enter allOf
@@ -288,32 +287,32 @@ module _ (x : Exchange) (k : WellFormed x) (number quote next : ℕ) (g : Given 
       let listings = traded-listings x place after (lots-swept .trades) next (x .nextstamp + 1) in
       let accounts = traded-accounts x place after (lots-swept .trades) next (x .nextstamp + 1) in
       entered-either x number quote o (λ e. allOf (tradeInRange afterwards) (e .trades) ≡ true) (λ e. refl)
-      (λ e. swept-in-range afterwards (takerOf x number quote o) (contractOf x k number quote next g o p z) (omega (arith, p .contract))
-      (omega (arith, p .account)) (g .low) (g .below) (mark-low (o .close)) (p .price)
-      (tick-low x k number quote next g o p z) (method-rounds (contractOf x k number quote next g o p z)) (traded-allows x place after (lots-swept .trades) next (x .nextstamp + 1) (p .contract) allows-here place)
-      (x .next) (x .nextstamp) (g .later)
-      (o .lots) (contractOf x k number quote next g o p z .last) others (last-on-tick x k number quote next g o p z)
-      (subst (λ (n : ℕ). allOf (orderInRange n (x .next) (x .nextstamp) (contractOf x k number quote next g o p z)) others ≡ true) (sym accounts) (sides x k number quote next g o p z .others-orders)) others-numbers)
+      (λ e. swept-in-range afterwards (takerOf x number quote o) (contractOf entry) (omega (arith, entry .passes .contract))
+      (omega (arith, entry .passes .account)) (entry .given .low) (entry .given .below) (mark-low (o .close)) (entry .passes .price)
+      (tick-low entry) (method-rounds (contractOf entry)) (traded-allows x place after (lots-swept .trades) next (x .nextstamp + 1) (entry .passes .contract) allows-here place)
+      (x .next) (x .nextstamp) (entry .given .later)
+      (o .lots) (contractOf entry .last) others (last-on-tick entry)
+      (subst (λ (n : ℕ). allOf (orderInRange n (x .next) (x .nextstamp) (contractOf entry)) others ≡ true) (sym accounts) (sides entry .others-orders)) others-numbers)
 
   pub its-trades : allOf (ofContract place) (lots-swept .trades) ≡ true
   unfolding takerOf restWhole enter allOf
   its-trades =
       entered-either x number quote o (λ e. allOf (ofContract place) (e .trades) ≡ true) (λ e. refl)
-      (λ e. swept-contract (takerOf x number quote o) (o .lots) (contractOf x k number quote next g o p z .last) others)
+      (λ e. swept-contract (takerOf x number quote o) (o .lots) (contractOf entry .last) others)
 
   trades-ok : TradesOk x place after (lots-swept .trades) next (x .nextstamp + 1)
   unfolding listingOf listingAt takerOf remainder
   trades-ok =
       record {
-        there = p .contract;
-        later = g .later;
-        high = g .high;
+        there = entry .passes .contract;
+        later = entry .given .later;
+        high = entry .given .high;
         stamped = omega arith;
-        stamps-high = omega (arith, p .stamp);
-        listing = listing-after x k number quote next g o p z;
+        stamps-high = omega (arith, entry .passes .stamp);
+        listing = listing-after entry;
         allows = allows-here;
-        numbers = once-more numberOf (λ r lots. (refl, refl)) (k .once) (g .unused);
-        stamps = once-more stampOf (λ r lots. (refl, refl)) (k .stamps-once) (given-unused stampOf (x .nextstamp) (length (x .accounts)) (x .next) (x .nextstamp) (λ c r q. q .stamp-high) (x .listings) (k .listing));
+        numbers = once-more numberOf (λ r lots. (refl, refl)) (entry .formed .once) (entry .given .unused);
+        stamps = once-more stampOf (λ r lots. (refl, refl)) (entry .formed .stamps-once) (given-unused stampOf (x .nextstamp) (length (x .accounts)) (x .next) (x .nextstamp) (λ c r q. q .stamp-high) (x .listings) (entry .formed .listing));
         ranges = new-trades;
         here = its-trades;
         never = swept-holdings contractLimit kept-before .never;
@@ -328,65 +327,75 @@ module _ (x : Exchange) (k : WellFormed x) (number quote next : ℕ) (g : Given 
   unfolding fillable takerOf fillableLots
   fillable-is = refl
 
-  filled : inAuction (contractOf x k number quote next g o p z) ≡ false → o .lots ≤ fillableLots x o → tradedLots (lots-swept .trades) ≡ o .lots
+  filled : inAuction (contractOf entry) ≡ false → o .lots ≤ fillableLots x o → tradedLots (lots-swept .trades) ≡ o .lots
   unfolding takerOf enter
   filled a h =
       rw (entered-elsewhere x number quote o a)
-      (omega (arith, swept-fillable (takerOf x number quote o) (o .lots) (contractOf x k number quote next g o p z .last) others (sides x k number quote next g o p z .others-sorted) refl, fillable-is))
+      (omega (arith, swept-fillable (takerOf x number quote o) (o .lots) (contractOf entry .last) others (sides entry .others-sorted) refl, fillable-is))
 
-  none-rested : isGoodForDay (o .time) ≡ false → rested x k number quote next g o p z ≡ 0
+  none-rested : isGoodForDay (o .time) ≡ false → rested entry ≡ 0
   unfolding restWhole enter restedLots
-  none-rested e = entered-either x number quote o (λ r. r .rested ≡ 0) (λ a. absurd (true≢false (sym (p .rests a) ∙ e))) (λ a. rw e)
+  none-rested e = entered-either x number quote o (λ r. r .rested ≡ 0) (λ a. absurd (true≢false (sym (entry .passes .rests a) ∙ e))) (λ a. rw e)
 
   -- code 13: with 64 on its own side nothing rests
-  none-rests : maxResting ≤ length mine → rested x k number quote next g o p z ≡ 0
+  none-rests : maxResting ≤ length mine → rested entry ≡ 0
   none-rests full = by-time-condition (isGoodForDay (o .time)) refl
     where
-      by-time-condition : (b : Bool) → isGoodForDay (o .time) ≡ b → rested x k number quote next g o p z ≡ 0
-      by-time-condition true e = let r = p .room e full in omega (arith, rested-left x k number quote next g o p z, filled (r .0) (r .1))
+      by-time-condition : (b : Bool) → isGoodForDay (o .time) ≡ b → rested entry ≡ 0
+      by-time-condition true e = let r = entry .passes .room e full in omega (arith, rested-left entry, filled (r .0) (r .1))
       by-time-condition false e = none-rested e
 
-  mine-length : length mine ≤ maxResting → length (restLots (takerOf x number quote o) (limitOf (o .condition)) (rested x k number quote next g o p z) mine) ≤ maxResting
+  mine-length : length mine ≤ maxResting → length mineAfter ≤ maxResting
   mine-length h = by-room (leb maxResting (length mine)) refl
     where
-      by-room : (b : Bool) → leb maxResting (length mine) ≡ b → length (restLots (takerOf x number quote o) (limitOf (o .condition)) (rested x k number quote next g o p z) mine) ≤ maxResting
-      by-room true e = omega (arith, rested-length (takerOf x number quote o) (limitOf (o .condition)) (rested x k number quote next g o p z) mine, none-rests (leb-true _ _ e))
-      by-room false e = omega (arith, rested-length-one (takerOf x number quote o) (limitOf (o .condition)) (rested x k number quote next g o p z) mine, leb-false maxResting (length mine) e)
+      by-room : (b : Bool) → leb maxResting (length mine) ≡ b → length mineAfter ≤ maxResting
+      by-room true e = omega (arith, rested-length (takerOf x number quote o) (limitOf (o .condition)) (rested entry) mine, none-rests (leb-true _ _ e))
+      by-room false e = omega (arith, rested-length-one (takerOf x number quote o) (limitOf (o .condition)) (rested entry) mine, leb-false maxResting (length mine) e)
 
   others-length : length (lots-swept .rest) ≤ length others
   unfolding restWhole enter
   others-length =
       entered-either x number quote o (λ e. length (e .opposite) ≤ length others) (λ e. omega arith)
-      (λ e. length-rest (takerOf x number quote o) (o .lots) (contractOf x k number quote next g o p z .last) others)
+      (λ e. length-rest (takerOf x number quote o) (o .lots) (contractOf entry .last) others)
 
   queue-after : ((sell : Bool) → length (own sell (listingOf x o)) ≤ maxResting) → (sell : Bool) → length (own sell after) ≤ maxResting
   unfolding listingAfter
   queue-after h =
-      rw (own-is x k number quote next g o p z)
+      rw (own-is entry)
       (each-side (λ (queue : List Order). length queue ≤ maxResting) (o .sell) _ _ (mine-length (h (o .sell))) (omega (arith, others-length, either (o .sell))))
     where
       either : (s : Bool) → length (opposite s (listingOf x o)) ≤ maxResting
       either true = h false
       either false = h true
 
-  pub entered-keeps : WellFormed (exchangeAfter x o (enteredOf x number quote o) next)
+  pub entry-keeps : WellFormed (exchangeAfter x o (enteredOf x number quote o) next)
   unfolding exchangeAfter
-  entered-keeps = traded-keeps x k place after (lots-swept .trades) next (x .nextstamp + 1) trades-ok
+  entry-keeps = traded-keeps x (entry .formed) place after (lots-swept .trades) next (x .nextstamp + 1) trades-ok
+
+  pub entry-counted : Counted x → Counted (exchangeAfter x o (enteredOf x number quote o) next)
+  unfolding exchangeAfter listingOf
+  entry-counted n =
+      traded-counted x place after (lots-swept .trades) next (x .nextstamp + 1) (entry .passes .contract) (queue-after (λ s. n .queues place s (entry .passes .contract)))
+      (omega (arith, entry .passes .trades, trades-needed x number quote o)) n
+
+-- the same, from its parts
+module _ (x : Exchange) (k : WellFormed x) (number quote next : ℕ) (g : Given x number next) (o : NewOrder) (p : Passes x number o) (z : Marks x quote o) where
+  pub entered-keeps : WellFormed (exchangeAfter x o (enteredOf x number quote o) next)
+  entered-keeps = entry-keeps (record { formed = k; given = g; passes = p; marks = z })
 
   pub entered-counted : Counted x → Counted (exchangeAfter x o (enteredOf x number quote o) next)
-  unfolding exchangeAfter listingOf
-  entered-counted n =
-      traded-counted x place after (lots-swept .trades) next (x .nextstamp + 1) (p .contract) (queue-after (λ s. n .queues place s (p .contract)))
-      (omega (arith, p .trades, trades-needed x number quote o)) n
+  entered-counted = entry-counted (record { formed = k; given = g; passes = p; marks = z })
 
 module _ (x : Exchange) (o : NewOrder) (e : firstOf (insertRefusals x o) ≡ 0) (k : WellFormed x) where
-  unmarked : Marks x 0 o
-  unmarked = no-mark x k o (passes x o e .account) (passes x o e .contract)
+  pub insert-enters : Enterable x (x .next) 0 (x .next + 1) o
+  insert-enters =
+      let p = passes x o e in
+      record { formed = k; given = next-given x k (numbered x o e); passes = p; marks = no-mark x k o (p .account) (p .contract) }
 
   pub insert-keeps : WellFormed (lastOf x (inserted x o .stages))
   unfolding inserted
-  insert-keeps = entered-keeps x k (x .next) 0 (x .next + 1) (next-given x k (numbered x o e)) o (passes x o e) unmarked
+  insert-keeps = entry-keeps insert-enters
 
   pub insert-counted : Counted x → Counted (lastOf x (inserted x o .stages))
   unfolding inserted
-  insert-counted = entered-counted x k (x .next) 0 (x .next + 1) (next-given x k (numbered x o e)) o (passes x o e) unmarked
+  insert-counted = entry-counted insert-enters

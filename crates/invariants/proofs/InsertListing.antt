@@ -79,8 +79,14 @@ pub mark-low : (close : Bool) → mark close ≤ 1
 mark-low true = omega arith
 mark-low false = omega arith
 
-module _ (x : Exchange) (k : WellFormed x) (number quote next : ℕ) (g : Given x number next) (o : NewOrder) (p : Passes x number o)
-    (z : Marks x quote o) where
+-- an order that may be entered in a well-formed state: with a number, the next one then, and a quote mark or none
+pub record Enterable (x : Exchange) (number quote next : ℕ) (o : NewOrder) : Type 0 where
+  pub formed : WellFormed x
+  pub given : Given x number next
+  pub passes : Passes x number o
+  pub marks : Marks x quote o
+
+module _ {x : Exchange} {number quote next : ℕ} {o : NewOrder} (entry : Enterable x number quote next o) where
   abbrev pub contractOf : Contract
   contractOf = listingOf x o .contract
 
@@ -104,7 +110,7 @@ module _ (x : Exchange) (k : WellFormed x) (number quote next : ℕ) (g : Given 
 
   pub listing-ok : ListingOk (length (x .accounts)) (x .next) (x .nextstamp) (listingOf x o)
   unfolding listingOf
-  listing-ok = k .listing (placeOf (o .contract)) (p .contract)
+  listing-ok = entry .formed .listing (placeOf (o .contract)) (entry .passes .contract)
 
   pub sides : SidesOk (length (x .accounts)) (x .next) (x .nextstamp) contractOf (o .sell) mine others
   sides = listing-sides (length (x .accounts)) (x .next) (x .nextstamp) (o .sell) (listingOf x o) listing-ok
@@ -119,7 +125,7 @@ module _ (x : Exchange) (k : WellFormed x) (number quote next : ℕ) (g : Given 
   unfolding restWhole enter allOf takerOf
   trade-prices =
       entered-either x number quote o (λ e. allOf (λ t. allowedToday contractOf (t .price)) (e .trades) ≡ true) (λ a. refl)
-      (λ a. swept-allowed contractOf tick-low (takerOf x number quote o) (method-rounds contractOf) (o .lots) (contractOf .last) others (p .price) last-on-tick
+      (λ a. swept-allowed contractOf tick-low (takerOf x number quote o) (method-rounds contractOf) (o .lots) (contractOf .last) others (entry .passes .price) last-on-tick
       (allOf-imp (orderInRange (length (x .accounts)) (x .next) (x .nextstamp) contractOf) (λ r. allowedToday contractOf (r .price)) others
       (λ r h. order-ok (length (x .accounts)) (x .next) (x .nextstamp) contractOf r h .price) (sides .others-orders)))
 
@@ -134,8 +140,8 @@ module _ (x : Exchange) (k : WellFormed x) (number quote next : ℕ) (g : Given 
   unfolding restWhole enter
   limit-rests =
       entered-either x number quote o (λ e. 0 < e .rested → o .condition ≡ Limit (limitOf (o .condition)))
-      (λ a some. is-limit (o .condition) (p .limited (p .rests a)))
-      (λ a some. is-limit (o .condition) (p .limited (rested-day (isGoodForDay (o .time)) (o .lots) _ some)))
+      (λ a some. is-limit (o .condition) (entry .passes .limited (entry .passes .rests a)))
+      (λ a some. is-limit (o .condition) (entry .passes .limited (rested-day (isGoodForDay (o .time)) (o .lots) _ some)))
 
   pub rested-left : rested ≤ o .lots - tradedLots (swept .trades)
   unfolding restWhole enter
@@ -150,23 +156,23 @@ module _ (x : Exchange) (k : WellFormed x) (number quote next : ℕ) (g : Given 
       order-test (length (x .accounts)) next (x .nextstamp + 1) contractAfter (remainder (takerOf x number quote o) (limitOf (o .condition)) rested)
       (record {
         lots-low = some;
-        lots-high = omega (arith, rested-left, p .lots-high);
-        account = p .account;
+        lots-high = omega (arith, rested-left, entry .passes .lots-high);
+        account = entry .passes .account;
         price =
             allows-last contractOf (lastPrice (contractOf .last) (swept .trades)) (limitOf (o .condition))
-            (p .price (limitOf (o .condition)) (limit-rests some));
-        number-low = g .low;
-        number-high = g .below;
+            (entry .passes .price (limitOf (o .condition)) (limit-rests some));
+        number-low = entry .given .low;
+        number-high = entry .given .below;
         close = mark-low (o .close);
-        stamp-low = k .nextstamp-low;
+        stamp-low = entry .formed .nextstamp-low;
         stamp-high = omega arith;
-        quote = z .low;
+        quote = entry .marks .low;
       })
 
   carried : (queue : List Order) → allOf (orderInRange (length (x .accounts)) (x .next) (x .nextstamp) contractOf) queue ≡ true →
       allOf (orderInRange (length (x .accounts)) next (x .nextstamp + 1) contractAfter) queue ≡ true
   carried =
-      orders-carried (length (x .accounts)) (x .next) next (x .nextstamp) (x .nextstamp + 1) contractOf contractAfter (g .later) (omega arith)
+      orders-carried (length (x .accounts)) (x .next) next (x .nextstamp) (x .nextstamp + 1) contractOf contractAfter (entry .given .later) (omega arith)
       (allows-last contractOf (lastPrice (contractOf .last) (swept .trades)))
 
   uncrossed-after : inAuction contractOf ≡ false → uncrossedFrom (o .sell) (restLots (takerOf x number quote o) (limitOf (o .condition)) rested mine) (swept .rest) ≡ true
@@ -176,7 +182,7 @@ module _ (x : Exchange) (k : WellFormed x) (number quote next : ℕ) (g : Given 
       (λ e. inAuction contractOf ≡ false → uncrossedFrom (o .sell) (restLots (takerOf x number quote o) (limitOf (o .condition)) (e .rested) mine) (e .opposite) ≡ true)
       (λ a b. absurd (true≢false (sym a ∙ b)))
       (λ a b. entered-uncrossed (takerOf x number quote o) (o .lots) (limitOf (o .condition)) (isGoodForDay (o .time)) (contractOf .last) mine others
-      (λ g. is-limit (o .condition) (p .limited g)) (sides .others-sorted) (sides .sides-uncrossed b))
+      (λ day. is-limit (o .condition) (entry .passes .limited day)) (sides .others-sorted) (sides .sides-uncrossed b))
 
   left-sorted : sorted (not (o .sell)) (swept .rest) ≡ true
   unfolding restWhole enter

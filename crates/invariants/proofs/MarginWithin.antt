@@ -38,9 +38,10 @@ use Rattle.invariants.specs.Accounts.{WithinBalance}
 use Rattle.invariants.proofs.ChangeKeeps as change
 use Rattle.invariants.proofs.Charged.{entered-charged, fewer-charged, none-included, relisted-no-more}
 use Rattle.invariants.proofs.Clauses.{Counted, WellFormed}
-use Rattle.invariants.proofs.InsertAccepted.{Given, Passes, next-given, numbered, passes, tests}
+use Rattle.invariants.proofs.Insert.{insert-enters}
+use Rattle.invariants.proofs.InsertAccepted.{tests}
+use Rattle.invariants.proofs.InsertListing.{Enterable}
 use Rattle.invariants.proofs.Legs.{Kept}
-use Rattle.invariants.proofs.Marks.{Marks, no-mark}
 use Rattle.invariants.proofs.Phases as phases
 use Rattle.invariants.proofs.QuoteKeeps as quote
 use Rattle.invariants.proofs.Removal.{without-resting}
@@ -152,8 +153,7 @@ own-open true false e = (refl, refl)
 own-open true true e = absurd (false≢true e)
 own-open false close e = absurd (false≢true e)
 
-module _ (x : Exchange) (k : WellFormed x) (shaped : Shaped x) (number quote next : ℕ) (g : Given x number next) (o : NewOrder) (p : Passes x number o)
-    (z : Marks x quote o) (paid-for : moneyRefused x o ≡ false) where
+module _ {x : Exchange} {number quote next : ℕ} {o : NewOrder} (entry : Enterable x number quote next o) (shaped : Shaped x) (paid-for : moneyRefused x o ≡ false) where
   abbrev left : Exchange
   left = exchangeAfter x o (enteredOf x number quote o) next
 
@@ -170,13 +170,13 @@ module _ (x : Exchange) (k : WellFormed x) (shaped : Shaped x) (number quote nex
   -- it was tested with all its lots included
   tested : o .close ≡ false → leZ (pos (includedTo x account place (o .sell) (o .lots) (length (x .listings)))) (holderAt x account .balance) ≡ true
   unfolding Shaped
-  tested e = sym (open-passes x o e (p .account) (rw (shaped account (p .account)) (p .contract))) ∙ ap not paid-for
+  tested e = sym (open-passes x o e (entry .passes .account) (rw (shaped account (entry .passes .account)) (entry .passes .contract))) ∙ ap not paid-for
 
   pub open-within : o .close ≡ false → WithinBalance left account
   open-within e =
       rw (same-balance account)
       (less-within (includedTo x account place (o .sell) (o .lots) (length (x .listings))) (charged left account) (holderAt x account .balance)
-      (rw (eq-eqb account account refl, ap mark e) at (entered-charged x k number quote next g o p z account (p .account)))
+      (rw (eq-eqb account account refl, ap mark e) at (entered-charged entry account (entry .passes .account)))
       (tested e))
 
   pub entered-within : (a : ℕ) → a < length (x .accounts) → Keeps x left a
@@ -186,7 +186,7 @@ module _ (x : Exchange) (k : WellFormed x) (shaped : Shaped x) (number quote nex
       by-own true e = λ w. let q = own-open (eqb account a) (o .close) e in subst (WithinBalance left) (eqb-true account a (q .0)) (open-within (q .1))
       by-own false e =
           keeps-both x left a
-          (rw (← none-included x a place (o .sell) (length (x .listings))) (rw e at (entered-charged x k number quote next g o p z a l)))
+          (rw (← none-included x a place (o .sell) (length (x .listings))) (rw e at (entered-charged entry a l)))
           (same-balance a)
 
 pub insert-within : (x : Exchange) → WellFormed x → Shaped x → (o : NewOrder) → firstOf (insertRefusals x o) ≡ 0 →
@@ -194,11 +194,9 @@ pub insert-within : (x : Exchange) → WellFormed x → Shaped x → (o : NewOrd
     × ((a : ℕ) → a < length (x .accounts) → Keeps x (lastOf x (inserted x o .stages)) a)
 unfolding inserted insertRefusals orderRefusals
 insert-within x k shaped o e =
-    let p = passes x o e in
-    let g = next-given x k (numbered x o e) in
-    let z = no-mark x k o (p .account) (p .contract) in
+    let entry = insert-enters x o e k in
     let paid-for = tests x o e .1 .1 .1 .1 .1 .1 .1 .0 in
-    (open-within x k shaped (x .next) 0 (x .next + 1) g o p z paid-for, entered-within x k shaped (x .next) 0 (x .next + 1) g o p z paid-for)
+    (open-within entry shaped paid-for, entered-within entry shaped paid-for)
 
 -- ---- a change of a contract's state: the match of an auction
 
@@ -272,21 +270,14 @@ module _ (x : Exchange) (k : WellFormed x) (shaped : Shaped x) (q : Offered) (e 
 
   buy-keeps : (a : ℕ) → a < length (empty .accounts) → Keeps empty buys a
   unfolding withBuy
-  buy-keeps =
-      entered-within empty (quote.gone-keeps x k q here listed) empty-shaped (empty .next) 1 (empty .next + 1) (quote.buy-given x k q here listed maker (codes .0)) (buyOf q)
-      (quote.buy-passes x k q here listed maker (codes .0)) (quote.buy-marks x k q here listed maker (codes .0)) (paid-for empty (buyOf q) (codes .0))
+  buy-keeps = entered-within (quote.buy-enters x k q here listed maker (codes .0)) empty-shaped (paid-for empty (buyOf q) (codes .0))
 
   sell-keeps : ((a : ℕ) → a < length (buys .accounts) → Keeps buys (withSell x q) a) × WithinBalance (withSell x q) (placeOf (q .account))
   unfolding withSell half
   sell-keeps =
-      let k′ = quote.buy-keeps x k q here listed maker (codes .0) in
-      let g = quote.sell-given x k q here listed maker (codes .0) (codes .1) in
-      let p = quote.sell-passes x k q here listed maker (codes .0) (codes .1) in
-      let z = quote.sell-marks x k q here listed maker (codes .0) (codes .1) in
-      let money = paid-for buys (sellOf q) (codes .1) in (
-        entered-within buys k′ buys-shaped (buys .next) 1 (buys .next + 1) g (sellOf q) p z money,
-        open-within buys k′ buys-shaped (buys .next) 1 (buys .next + 1) g (sellOf q) p z money refl,
-      )
+      let entry = quote.sell-enters x k q here listed maker (codes .0) (codes .1) in
+      let money = paid-for buys (sellOf q) (codes .1) in
+      (entered-within entry buys-shaped money, open-within entry buys-shaped money refl)
 
   pub quote-within : WithinBalance (lastOf x (quoted x q .stages)) (placeOf (q .account)) × ((a : ℕ) → a < length (x .accounts) → Keeps x (lastOf x (quoted x q .stages)) a)
   unfolding quoted
@@ -315,14 +306,9 @@ module _ (x : Exchange) (k : WellFormed x) (shaped : Shaped x) (c : Asked) (e : 
         × ((a : ℕ) → a < length (x .accounts) → Keeps x (lastOf x (placeLost x c .stages)) a)
     unfolding placeLost reentered gone arriving
     lost-within =
-        let k′ = change.gone-keeps x k c e in
-        let g = change.given x k c e in
-        let p = change.passes x k c e lost n in
-        let z = change.no-mark-left x k c e lost n in
-        let money = change.reentry-passed x k c e lost .1 .0 in (
-          λ o. open-within (gone x c) k′ gone-shaped (c .number) 0 (x .next) g (arriving x c) p z money (not-true _ o),
-          λ a l w. entered-within (gone x c) k′ gone-shaped (c .number) 0 (x .next) g (arriving x c) p z money a l (gone-within a w),
-        )
+        let entry = change.reenters x k c e lost n in
+        let money = change.reentry-passed x k c e lost .1 .0 in
+        (λ o. open-within entry gone-shaped money (not-true _ o), λ a l w. entered-within entry gone-shaped money a l (gone-within a w))
 
   pub change-opened : losesPlace x c ≡ true → not (eqb (oldOrder x c .close) 1) ≡ true → WithinBalance (lastOf x (changed x c .stages)) (placeOf (c .account))
   change-opened lost o =

@@ -25,9 +25,10 @@ use Rattle.rules.proofs.Rest.{rest-sum}
 use Rattle.rules.proofs.Stages.{Each}
 use Rattle.rules.proofs.Refusals.{Failed, failed, failed-both, present}
 use Rattle.invariants.proofs.Clauses.{WellFormed, Counted}
-use Rattle.invariants.proofs.Insert.{entered-counted, entered-keeps}
-use Rattle.invariants.proofs.InsertAccepted.{Given, Passes, next-given, numbers-left, order-passes}
-use Rattle.invariants.proofs.Marks.{Marks, markOf, mark-fewer}
+use Rattle.invariants.proofs.Insert.{entry-counted, entry-keeps}
+use Rattle.invariants.proofs.InsertAccepted.{Passes, next-given, numbers-left, order-passes}
+use Rattle.invariants.proofs.InsertListing.{Enterable}
+use Rattle.invariants.proofs.Marks.{markOf, mark-fewer}
 use Rattle.invariants.proofs.Removal.{removed-counted, removed-keeps}
 
 -- no order of the old quote is left
@@ -87,21 +88,23 @@ module _ (x : Exchange) (w : WellFormed x) (q : Offered) (account-there : placeO
     unfolding half
     buy-passes = order-passes (withoutQuote x q) (buyOf q) bought (rw gone-accounts account-there) gone-there
 
-    pub buy-given : Given (withoutQuote x q) (withoutQuote x q .next) (withoutQuote x q .next + 1)
-    buy-given = next-given (withoutQuote x q) gone-keeps (numbers-left (withoutQuote x q) (buyOf q) bought)
-
-    pub buy-marks : Marks (withoutQuote x q) 1 (buyOf q)
+    pub buy-enters : Enterable (withoutQuote x q) (withoutQuote x q .next) 1 (withoutQuote x q .next + 1) (buyOf q)
     unfolding half listingOf
-    buy-marks = record { low = omega arith; allowed = rw (gone-accounts, is-maker) refl; single = omega (arith, none-marked false) }
+    buy-enters =
+        record {
+          formed = gone-keeps;
+          given = next-given (withoutQuote x q) gone-keeps (numbers-left (withoutQuote x q) (buyOf q) bought);
+          passes = buy-passes;
+          marks = record { low = omega arith; allowed = rw (gone-accounts, is-maker) refl; single = omega (arith, none-marked false) };
+        }
 
     pub buy-keeps : WellFormed (withBuy x q)
     unfolding withBuy
-    buy-keeps = entered-keeps (withoutQuote x q) gone-keeps (withoutQuote x q .next) 1 (withoutQuote x q .next + 1) buy-given (buyOf q) buy-passes buy-marks
+    buy-keeps = entry-keeps buy-enters
 
     pub buy-counted : Counted x → Counted (withBuy x q)
     unfolding withBuy
-    buy-counted n =
-        entered-counted (withoutQuote x q) gone-keeps (withoutQuote x q .next) 1 (withoutQuote x q .next + 1) buy-given (buyOf q) buy-passes buy-marks (gone-counted n)
+    buy-counted n = entry-counted buy-enters (gone-counted n)
 
     -- ---- what it leaves
 
@@ -140,20 +143,23 @@ module _ (x : Exchange) (w : WellFormed x) (q : Offered) (account-there : placeO
       unfolding half
       sell-passes = order-passes (withBuy x q) (sellOf q) sold (rw buy-accounts account-there) (rw buy-listings gone-there)
 
-      pub sell-given : Given (withBuy x q) (withBuy x q .next) (withBuy x q .next + 1)
-      sell-given = next-given (withBuy x q) buy-keeps (numbers-left (withBuy x q) (sellOf q) sold)
-
-      pub sell-marks : Marks (withBuy x q) 1 (sellOf q)
+      pub sell-enters : Enterable (withBuy x q) (withBuy x q .next) 1 (withBuy x q .next + 1) (sellOf q)
       unfolding half listingOf
-      sell-marks = record { low = omega arith; allowed = rw still-maker refl; single = rw buy-sells (omega (arith, sells-unmarked)) }
+      sell-enters =
+          record {
+            formed = buy-keeps;
+            given = next-given (withBuy x q) buy-keeps (numbers-left (withBuy x q) (sellOf q) sold);
+            passes = sell-passes;
+            marks = record { low = omega arith; allowed = rw still-maker refl; single = rw buy-sells (omega (arith, sells-unmarked)) };
+          }
 
       pub sell-keeps : WellFormed (withSell x q)
       unfolding withSell
-      sell-keeps = entered-keeps (withBuy x q) buy-keeps (withBuy x q .next) 1 (withBuy x q .next + 1) sell-given (sellOf q) sell-passes sell-marks
+      sell-keeps = entry-keeps sell-enters
 
       pub sell-counted : Counted x → Counted (withSell x q)
       unfolding withSell
-      sell-counted n = entered-counted (withBuy x q) buy-keeps (withBuy x q .next) 1 (withBuy x q .next + 1) sell-given (sellOf q) sell-passes sell-marks (buy-counted n)
+      sell-counted n = entry-counted sell-enters (buy-counted n)
 
 -- ---- a quote that is refused for nothing
 
