@@ -25,7 +25,7 @@ import tempfile
 from pathlib import Path
 
 TOP = Path(__file__).resolve().parent.parent.parent
-CRATES = ("rules", "query", "mending", "baskets", "statements", "saved")
+CRATES = ("rules", "query", "mending", "baskets", "statements", "statefile")
 WORKED_CASES = re.compile(r"(\w*Examples|PaperDay)\.antt")
 
 # The words of theorems: what they say is held by their proofs, not by worked cases.

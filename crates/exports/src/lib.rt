@@ -15,7 +15,7 @@ ghost use Rattle.query.specs.Gettable.{gettableNow};
 ghost use Rattle.mending.specs.Mend.{MendIs};
 ghost use Rattle.statements.specs.Parts.{broker};
 ghost use Rattle.statements.specs.Statement.{StatementIs};
-ghost use Rattle.saved.specs.Saved.{WrittenIs, ReadIs};
+ghost use Rattle.statefile.specs.StateFile.{WrittenIs, ReadIs};
 ghost use Rattle.dayfile.specs.Opened.{openedFrom};
 ghost use Rattle.runner.specs.Output.{LinesIs};
 ghost use Rattle.exports.specs.Calls.{SideIs};

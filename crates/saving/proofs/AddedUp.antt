@@ -12,7 +12,7 @@ use Rattle.laws.specs.Sums.{sumOf, sumOf-more}
 use Rattle.rules.specs.Exchange.{noAccount, noContract, noHolding}
 use Rattle.rules.specs.declared.Account.{Account}
 use Rattle.rules.specs.declared.State.{State}
-use Rattle.saved.specs.Saved.{totalsEqual}
+use Rattle.statefile.specs.StateFile.{totalsEqual}
 use Rattle.saving.specs.Parts.{asleepAt, stateWritable}
 
 module _ (list : List Account) (accounts c : ℕ) where

@@ -14,10 +14,10 @@ use Rattle.rules.specs.WellFormed.{wellFormedContents}
 use Rattle.rules.specs.declared.Account.{Account}
 use Rattle.rules.specs.declared.State.{State}
 use Rattle.invariants.proofs.MemoryRoom.{room-test}
-use Rattle.saved.specs.Saved.{ReadIs, accountsIn, allEqual, loadedFrom, loadedInto, loadedState, markSound, readCode, savedSound, shaped, totalsEqual}
-use Rattle.saved.proofs.Again.{loaded-accounts, loaded-asleep, loaded-contracts, loaded-places, loaded-start, shape}
-use Rattle.saved.proofs.Fields.{nothing-in}
-use Rattle.saved.proofs.Loaded.{Loadable, loaded-counts, loaded-in-use}
+use Rattle.statefile.specs.StateFile.{ReadIs, accountsIn, allEqual, loadedFrom, loadedInto, loadedState, markSound, readCode, savedSound, shaped, totalsEqual}
+use Rattle.statefile.proofs.Again.{loaded-accounts, loaded-asleep, loaded-contracts, loaded-places, loaded-start, shape}
+use Rattle.statefile.proofs.Fields.{nothing-in}
+use Rattle.statefile.proofs.Loaded.{Loadable, loaded-counts, loaded-in-use}
 use Rattle.saving.specs.Parts.{Laid, inSpare, spare}
 use Rattle.saving.proofs.Lying.{totals-in-use}
 

@@ -21,7 +21,7 @@ use Rattle.invariants.proofs.Clauses.{well-formed}
 use Rattle.invariants.proofs.MemoryRoom.{CountsOk, memory-ok}
 use Rattle.sections.specs.Sections.{holdingBytes, holdingsBytes, inRow}
 use Rattle.sections.proofs.Rows.{row-ext}
-use Rattle.saved.specs.Saved.{accountBytes, allEqual, asleep, contractBytes, rowBytes, savedBytes, totalsEqual, writable}
+use Rattle.statefile.specs.StateFile.{accountBytes, allEqual, asleep, contractBytes, rowBytes, savedBytes, totalsEqual, writable}
 use Rattle.saving.specs.Parts.{Short, accountRow, asleepAt, contractRow, stateBytes, stateWritable}
 
 -- ---- the words of a list of records, one after the other

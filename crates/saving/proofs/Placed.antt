@@ -19,7 +19,7 @@ use Rattle.rules.specs.declared.State.{State}
 use Rattle.endian.specs.Numbers.{signedOf}
 use Rattle.settlement.proofs.Places.{written-accounts, written-first}
 use Rattle.sections.specs.Sections.{holdingWidth}
-use Rattle.saved.specs.Saved.{accountPlace, accountsIn, contractPlace, loadedAccount, loadedFrom, loadedListing, loadedState, rowPlace, savedAccount, savedContract, savedHolding, settlementsPlace, balanceWidth, savedAccountWidth, savedContractWidth, settlementsWidth}
+use Rattle.statefile.specs.StateFile.{accountPlace, accountsIn, contractPlace, loadedAccount, loadedFrom, loadedListing, loadedState, rowPlace, savedAccount, savedContract, savedHolding, settlementsPlace, balanceWidth, savedAccountWidth, savedContractWidth, settlementsWidth}
 use Rattle.saving.specs.Parts.{Laid}
 use Rattle.saving.proofs.Shapes.{few-bytes}
 

@@ -16,7 +16,7 @@ use Rattle.endian.proofs.Writes.{then, length-four}
 use Rattle.endian.specs.Numbers.{two, four, eight, unsigned}
 use Rattle.sections.specs.Sections.{section}
 use Rattle.sections.proofs.Rows.{exact}
-use Rattle.saved.specs.Saved.{accountBytes, contractBytes, balanceWidth, markWidth, priceWidth, savedAccountWidth, savedContractWidth, settlementsWidth}
+use Rattle.statefile.specs.StateFile.{accountBytes, contractBytes, balanceWidth, markWidth, priceWidth, savedAccountWidth, savedContractWidth, settlementsWidth}
 use Rattle.saving.specs.Parts.{accountSection, contractSection, holdingSection, stateBytes}
 
 -- ---- one part after another

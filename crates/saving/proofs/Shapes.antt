@@ -13,11 +13,11 @@ use Rattle.rules.specs.Bounds.{maxAccounts, maxContracts}
 use Rattle.rules.specs.DayFile.{contractsIn, u8At, u32At, countWidth}
 use Rattle.rules.proofs.Terms.{within-high, within-low, within-test}
 use Rattle.sections.specs.Sections.{holdingWidth}
-use Rattle.saved.specs.Saved.{accountPlace, accountsIn, countsRight, markSound, rowPlace, settlementsPlace, shaped, balanceWidth, savedAccountWidth, savedContractWidth, settlementsWidth}
+use Rattle.statefile.specs.StateFile.{accountPlace, accountsIn, countsRight, markSound, rowPlace, settlementsPlace, shaped, balanceWidth, savedAccountWidth, savedContractWidth, settlementsWidth}
 use Rattle.dayfile.specs.FileHead.{countBefore}
 use Rattle.dayfile.proofs.Counts.{counted, uncounted}
 use Rattle.dayfile.proofs.Places.{contracts-are, contracts-read}
-use Rattle.saved.proofs.Again.{shape}
+use Rattle.statefile.proofs.Again.{shape}
 use Rattle.saving.specs.Parts.{Laid}
 
 -- rows of eight bytes for each of four contracts and 32 accounts at most

@@ -12,9 +12,9 @@ use Rattle.rules.specs.Answers.{firstOf}
 use Rattle.rules.specs.Memory.{Declared, Memory, exchangeOf, wellFormedMemory}
 use Rattle.rules.proofs.InUse.{contracts-in-use}
 use Rattle.invariants.proofs.MemoryRoom.{CountsOk, memory-ok}
-use Rattle.saved.specs.Saved.{WrittenIs, savedBytes, settlementsPlace, writable, writeCode, settlementsWidth}
-use Rattle.saved.proofs.Continued.{savable, writes}
-use Rattle.saved.proofs.Reading.{length-saved}
+use Rattle.statefile.specs.StateFile.{WrittenIs, savedBytes, settlementsPlace, writable, writeCode, settlementsWidth}
+use Rattle.statefile.proofs.Continued.{savable, writes}
+use Rattle.statefile.proofs.Reading.{length-saved}
 use Rattle.saving.specs.Parts.{Fitting, stateBytes, stateWritable}
 use Rattle.saving.proofs.Lying.{account-count, bytes-are, low-marks, short-terms, writable-is}
 

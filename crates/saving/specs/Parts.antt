@@ -15,7 +15,7 @@ use Rattle.rules.specs.declared.Contract.{Contract}
 use Rattle.rules.specs.declared.State.{State}
 use Rattle.endian.specs.Numbers.{four}
 use Rattle.sections.specs.Sections.{holdingsBytes, inRow, section}
-use Rattle.saved.specs.Saved.{accountBytes, accountsIn, contractBytes, settlementsPlace, totalsEqual, settlementsWidth}
+use Rattle.statefile.specs.StateFile.{accountBytes, accountsIn, contractBytes, settlementsPlace, totalsEqual, settlementsWidth}
 
 -- ---- the file of a state, section by section
 

@@ -2,7 +2,7 @@
 // for reading only: nothing in them is in use in a state that is saved, and reading leaves them as they are.
 ghost use mathlib.Core.Path.{_≡_};
 ghost use Rattle.rules.specs.Memory.{memory, wellFormedMemory};
-ghost use Rattle.saved.specs.Saved.{WrittenIs, ReadIs};
+ghost use Rattle.statefile.specs.StateFile.{WrittenIs, ReadIs};
 ghost use Rattle.saving.specs.Parts.{inSpare};
 use audit::counts::has_room;
 use dayfile::head::contract_count;

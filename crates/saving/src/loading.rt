@@ -8,7 +8,7 @@ ghost use Rattle.rules.specs.Bounds.{maxContracts};
 ghost use Rattle.rules.specs.Exchange.{noAccount};
 ghost use Rattle.rules.specs.Memory.{putAccount};
 ghost use Rattle.sections.specs.Sections.{holdingWidth};
-ghost use Rattle.saved.specs.Saved.{contractPlace, savedContract, savedHolding, savedAccount, loadedAccount, loadedFrom, loadedState, savedContractWidth, savedAccountWidth};
+ghost use Rattle.statefile.specs.StateFile.{contractPlace, savedContract, savedHolding, savedAccount, loadedAccount, loadedFrom, loadedState, savedContractWidth, savedAccountWidth};
 ghost use Rattle.saving.specs.Parts.{Laid};
 use crate::shape::BALANCE_WIDTH;
 use crate::shape::LOTS_WIDTH;

@@ -6,7 +6,7 @@ ghost use lib.ListN.{length};
 ghost use Rattle.laws.specs.Choice.{all};
 ghost use Rattle.rules.specs.Bounds.{maxContracts, maxAccounts};
 ghost use Rattle.rules.specs.DayFile.{contractsIn, countWidth};
-ghost use Rattle.saved.specs.Saved as saved;
+ghost use Rattle.statefile.specs.StateFile as statefile;
 ghost use Rattle.saving.specs.Parts.{Laid, savedMost};
 use dayfile::head::TWO_COUNTS;
 use dayfile::head::count_before;
@@ -42,7 +42,7 @@ const FIRST_MARK: usize = TWO_COUNTS + BALANCE_WIDTH;
 // How many bytes a file of so many contracts and accounts has.
 pub fn file_length(contracts: usize, accounts: usize) -> usize
     requires { ⌜ (contracts ≤ maxContracts) × (accounts ≤ maxAccounts) ⌝ }
-    ensures { λ r. ⌜ (r ≡ saved.settlementsPlace contracts accounts + saved.settlementsWidth) × (r ≤ savedMost) ⌝ }
+    ensures { λ r. ⌜ (r ≡ statefile.settlementsPlace contracts accounts + statefile.settlementsWidth) × (r ≤ savedMost) ⌝ }
 {
     FIXED_WIDTH
         + SAVED_CONTRACT_WIDTH * contracts
@@ -52,8 +52,8 @@ pub fn file_length(contracts: usize, accounts: usize) -> usize
 
 // The accounts' count stands behind the contracts.
 pub fn account_count(file: &[u8], contracts: usize) -> usize
-    requires { ⌜ (contracts ≡ contractsIn (now file)) × (contracts ≤ maxContracts) × (2 * countWidth + saved.savedContractWidth * contracts ≤ length (now file)) ⌝ }
-    ensures { λ r. ⌜ r ≡ saved.accountsIn (now (file .entry)) ⌝ }
+    requires { ⌜ (contracts ≡ contractsIn (now file)) × (contracts ≤ maxContracts) × (2 * countWidth + statefile.savedContractWidth * contracts ≤ length (now file)) ⌝ }
+    ensures { λ r. ⌜ r ≡ statefile.accountsIn (now (file .entry)) ⌝ }
 {
     u32_at(file, rules::COUNT_WIDTH + SAVED_CONTRACT_WIDTH * contracts) as usize
 }
@@ -61,7 +61,7 @@ pub fn account_count(file: &[u8], contracts: usize) -> usize
 // The counts of the last two sections.
 fn counts_right(file: &[u8], contracts: usize, accounts: usize) -> bool
     requires { ⌜ Laid (now file) contracts accounts ⌝ }
-    ensures { λ r. ⌜ r ≡ saved.countsRight (now (file .entry)) ⌝ }
+    ensures { λ r. ⌜ r ≡ statefile.countsRight (now (file .entry)) ⌝ }
 {
     let holdings = laws::wide(u32_at(
         file,
@@ -74,7 +74,7 @@ fn counts_right(file: &[u8], contracts: usize, accounts: usize) -> bool
 }
 
 pub fn is_shaped(file: &[u8]) -> bool
-    ensures { λ r. ⌜ r ≡ saved.shaped (now (file .entry)) ⌝ }
+    ensures { λ r. ⌜ r ≡ statefile.shaped (now (file .entry)) ⌝ }
 {
     let contracts = count_before(file, rules::COUNT_WIDTH, rules::MAX_CONTRACTS);
     if contracts == 0 {
@@ -94,7 +94,7 @@ pub fn is_shaped(file: &[u8]) -> bool
 // "maker mark 1, its value 0 or 1"
 pub fn marks_sound(file: &[u8], contracts: usize, accounts: usize) -> bool
     requires { ⌜ Laid (now file) contracts accounts ⌝ }
-    ensures { λ r. ⌜ r ≡ all (saved.markSound (now (file .entry))) accounts ⌝ }
+    ensures { λ r. ⌜ r ≡ all (statefile.markSound (now (file .entry))) accounts ⌝ }
 {
     let first = FIRST_MARK + SAVED_CONTRACT_WIDTH * contracts;
     let mut a: usize = 0;

@@ -4,7 +4,7 @@ ghost use Prim.Native.Nat.{_^_, _≤_, _<_};
 ghost use lib.ListN.{take};
 ghost use Rattle.laws.specs.Choice.{all};
 ghost use Rattle.rules.specs.Bounds.{maxContracts, maxAccounts};
-ghost use Rattle.saved.specs.Saved.{totalsEqual};
+ghost use Rattle.statefile.specs.StateFile.{totalsEqual};
 ghost use Rattle.saving.specs.Parts.{asleepAt, stateWritable};
 use rules::Account;
 use rules::State;

@@ -10,7 +10,7 @@ ghost use Rattle.endian.specs.Numbers.{four};
 ghost use Rattle.endian.specs.Written.{Written};
 ghost use Rattle.rules.specs.Exchange.{noAccount, noContract};
 ghost use Rattle.sections.specs.Sections.{section};
-ghost use Rattle.saved.specs.Saved.{contractBytes, accountBytes, savedContractWidth, savedAccountWidth, settlementsWidth};
+ghost use Rattle.statefile.specs.StateFile.{contractBytes, accountBytes, savedContractWidth, savedAccountWidth, settlementsWidth};
 ghost use Rattle.saving.specs.Parts.{Short, Fitting, contractRow, accountRow, contractSection, accountSection, holdingSection, stateBytes};
 use endian::writing::put_byte;
 use endian::writing::put_u16;

@@ -4,7 +4,7 @@ use mathlib.Core.Path.{_≡_}
 use Rattle.laws.specs.Tests.{passed, refused}
 use Rattle.rules.specs.Memory.{memory, wellFormedMemory}
 use Rattle.engine.proofs.Declared.{declared}
-use Rattle.saved.specs.Saved.{shaped}
+use Rattle.statefile.specs.StateFile.{shaped}
 use Rattle.saving.specs.Parts.{Laid, inSpare}
 use Rattle.saving.proofs.Loads.{Given, counts-are, formed-20, loaded-0, marks-20, misshapen-20, room-29, totals-30}
 use Rattle.saving.proofs.Shapes.{count-ready, shaped-laid, shaped-long}

@@ -8,7 +8,7 @@ use Rattle.laws.specs.Lists.{unmapped}
 use Rattle.laws.specs.Written.{Writing, writing-none, writing-more, writing-done}
 use Rattle.rules.specs.Exchange.{noAccount}
 use Rattle.rules.specs.Memory.{putAccount}
-use Rattle.saved.specs.Saved.{loadedAccount}
+use Rattle.statefile.specs.StateFile.{loadedAccount}
 use Rattle.saving.proofs.Placed.{account-over, inside}
 use Rattle.saving.proofs.loading.accounts_over.Statement.{statement}
 use Rattle.saving.proofs.loading.accounts_over.Tie as tie

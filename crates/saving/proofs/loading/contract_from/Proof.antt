@@ -1,6 +1,6 @@
 -- `loading::contract_from` meets its contract: the day file's contract with the last price behind it. Assumes nothing.
 use mathlib.Core.Path.{refl}
-use Rattle.saved.specs.Saved.{savedContract}
+use Rattle.statefile.specs.StateFile.{savedContract}
 use borrow.Author.Needs.{needs}
 use Rattle.saving.proofs.loading.contract_from.Statement.{statement}
 use Rattle.saving.proofs.loading.contract_from.Tie as tie

@@ -6,7 +6,7 @@ use borrow.Author.Needs.{needs}
 use lib.ListN.{length}
 use Rattle.laws.specs.Lists.{unmapped}
 use Rattle.laws.specs.Written.{Writing, writing-none, writing-more, writing-done}
-use Rattle.saved.specs.Saved.{contractPlace, savedContract}
+use Rattle.statefile.specs.StateFile.{contractPlace, savedContract}
 use Rattle.saving.proofs.loading.contracts_over.Statement.{statement}
 use Rattle.saving.proofs.loading.contracts_over.Tie as tie
 

@@ -1,6 +1,6 @@
 -- `loading::holding_from` meets its contract. Assumes nothing.
 use mathlib.Core.Path.{refl}
-use Rattle.saved.specs.Saved.{savedHolding}
+use Rattle.statefile.specs.StateFile.{savedHolding}
 use borrow.Author.Needs.{needs}
 use Rattle.saving.proofs.loading.holding_from.Statement.{statement}
 use Rattle.saving.proofs.loading.holding_from.Tie as tie

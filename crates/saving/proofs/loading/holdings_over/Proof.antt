@@ -7,7 +7,7 @@ use lib.ListN.{length}
 use Rattle.laws.specs.Lists.{unmapped}
 use Rattle.laws.specs.Written.{Writing, writing-none, writing-more, writing-done}
 use Rattle.sections.specs.Sections.{holdingWidth}
-use Rattle.saved.specs.Saved.{savedHolding}
+use Rattle.statefile.specs.StateFile.{savedHolding}
 use Rattle.saving.proofs.loading.holdings_over.Statement.{statement}
 use Rattle.saving.proofs.loading.holdings_over.Tie as tie
 

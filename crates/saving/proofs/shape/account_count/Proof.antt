@@ -1,5 +1,5 @@
 -- `shape::account_count` meets its contract. Assumes nothing.
-use Rattle.saved.specs.Saved.{accountsIn}
+use Rattle.statefile.specs.StateFile.{accountsIn}
 use borrow.Author.Needs.{needs}
 use Rattle.saving.proofs.shape.account_count.Statement.{statement}
 use Rattle.saving.proofs.shape.account_count.Tie as tie

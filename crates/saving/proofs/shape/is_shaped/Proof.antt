@@ -2,7 +2,7 @@
 use mathlib.Core.Path.{_≡_, refl}
 use native.Mathlib.Omega.{arith}
 use Rattle.rules.specs.DayFile.{contractsIn}
-use Rattle.saved.specs.Saved.{accountsIn}
+use Rattle.statefile.specs.StateFile.{accountsIn}
 use Rattle.dayfile.proofs.Places.{contracts-are}
 use Rattle.saving.proofs.Shapes.{accounts-are, decided, laid, length-wrong, no-accounts, no-contracts}
 use borrow.Author.Needs.{needs}

@@ -5,7 +5,7 @@ use Prim.Native.Nat.{_-_, _≤_}
 use native.Mathlib.Omega.{arith}
 use Rattle.laws.specs.Choice.{all, all-more, all-none, all-stop}
 use Rattle.audit.proofs.Walks.{all-end}
-use Rattle.saved.specs.Saved.{markSound}
+use Rattle.statefile.specs.StateFile.{markSound}
 use Rattle.saving.proofs.Shapes.{mark-right, mark-wrong}
 use Rattle.saving.proofs.shape.marks_sound.Statement.{statement}
 use Rattle.saving.proofs.shape.marks_sound.Tie as tie

@@ -7,7 +7,7 @@ use lib.ListN.{take}
 use Rattle.laws.specs.Choice.{all, all-more, all-none, all-stop}
 use Rattle.laws.specs.Tests.{passed, refused}
 use Rattle.audit.proofs.Walks.{all-end}
-use Rattle.saved.specs.Saved.{totalsEqual}
+use Rattle.statefile.specs.StateFile.{totalsEqual}
 use Rattle.saving.proofs.totals.all_equal.Statement.{statement}
 use Rattle.saving.proofs.totals.all_equal.Tie as tie
 

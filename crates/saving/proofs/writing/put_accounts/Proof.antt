@@ -4,7 +4,7 @@ use native.Mathlib.Omega.{arith}
 use lib.ListN.{getD}
 use Rattle.rules.specs.Exchange.{noAccount}
 use Rattle.sections.proofs.Rows.{Telling, telling-none, telling-fits, telling-more, telling-done}
-use Rattle.saved.specs.Saved.{accountBytes}
+use Rattle.statefile.specs.StateFile.{accountBytes}
 use Rattle.saving.proofs.Sections.{length-account}
 use Rattle.saving.proofs.writing.put_accounts.Statement.{statement}
 use Rattle.saving.proofs.writing.put_accounts.Tie as tie

@@ -4,7 +4,7 @@ use native.Mathlib.Omega.{arith}
 use lib.ListN.{getD}
 use Rattle.rules.specs.Exchange.{noContract}
 use Rattle.sections.proofs.Rows.{Telling, telling-none, telling-fits, telling-more, telling-done}
-use Rattle.saved.specs.Saved.{contractBytes}
+use Rattle.statefile.specs.StateFile.{contractBytes}
 use Rattle.saving.proofs.Sections.{length-contract}
 use Rattle.saving.proofs.writing.put_contracts.Statement.{statement}
 use Rattle.saving.proofs.writing.put_contracts.Tie as tie

@@ -18,12 +18,12 @@ use Rattle.invariants.proofs.Clauses.{well-formed}
 use Rattle.endian.specs.Numbers.{two, four}
 use Rattle.endian.proofs.Writes.{length-four}
 use Rattle.sections.specs.Sections.{holdingBytes, section, holdingWidth}
-use Rattle.saved.specs.Saved.{accountBytes, accountPlace, accountsIn, contractPlace, countsRight, loadedFrom, markSound, rowBytes, rowPlace, savedBytes, savedSound, settlementsPlace, shaped, savedAccountWidth, settlementsWidth}
-use Rattle.saved.proofs.Fields.{entry, entryBytes, entryOf, holding, listing, listingBytes}
-use Rattle.saved.proofs.Lists.{accounts-again, accounts-are, accountsOf, entriesOf, listings-are, listingsOf, marked, marks-are, rowsOf}
+use Rattle.statefile.specs.StateFile.{accountBytes, accountPlace, accountsIn, contractPlace, countsRight, loadedFrom, markSound, rowBytes, rowPlace, savedBytes, savedSound, settlementsPlace, shaped, savedAccountWidth, settlementsWidth}
+use Rattle.statefile.proofs.Fields.{entry, entryBytes, entryOf, holding, listing, listingBytes}
+use Rattle.statefile.proofs.Lists.{accounts-again, accounts-are, accountsOf, entriesOf, listings-are, listingsOf, marked, marks-are, rowsOf}
 use Rattle.endian.proofs.Numbers.{four-behind}
-use Rattle.saved.proofs.Rows.{Field, row, row-back, row-wide}
-use Rattle.saved.proofs.Savable.{Savable, entries-fit, holdings-fit, writable-parts}
+use Rattle.statefile.proofs.Rows.{Field, row, row-back, row-wide}
+use Rattle.statefile.proofs.Savable.{Savable, entries-fit, holdings-fit, writable-parts}
 
 -- ---- a section behind what begins a file: its count and its records
 

@@ -24,8 +24,8 @@ use Rattle.rules.proofs.Terms.{within-high, within-low}
 use Rattle.accounting.proofs.Declared.{put-declared}
 use Rattle.invariants.proofs.MemoryLaws.{put-first-at}
 use Rattle.invariants.proofs.MemoryRoom.{CountsOk, counts-test, memory-test, room-ok}
-use Rattle.saved.specs.Saved.{asleep, loadedState}
-use Rattle.saved.proofs.Fields.{nothing-in}
+use Rattle.statefile.specs.StateFile.{asleep, loadedState}
+use Rattle.statefile.proofs.Fields.{nothing-in}
 
 -- what the arrays have places for, without orders or trades
 pub record Loadable (x : Exchange) : Type 0 where

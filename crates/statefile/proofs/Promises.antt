@@ -12,13 +12,13 @@ use Rattle.rules.specs.DayFile.{countWidth}
 use Rattle.rules.specs.Exchange.{Exchange}
 use Rattle.rules.specs.Memory.{Declared, Memory, exchangeOf, hasRoom, wellFormedMemory}
 use Rattle.rules.proofs.Refusals.{failed}
-use Rattle.saved.specs.Saved.{allEqual, loadedFrom, loadedInto, readCode, savedBytes, savedSound, writable, writeCode, savedAccountWidth, savedContractWidth, settlementsWidth}
-use Rattle.saved.proofs.Again.{loaded-savable, loaded-writable, sound-parts, write-again}
-use Rattle.saved.proofs.Continued.{loadable, writable-loaded, writes}
-use Rattle.saved.proofs.Loaded.{Loadable, loaded-declared, loaded-formed, loaded-in-use}
+use Rattle.statefile.specs.StateFile.{allEqual, loadedFrom, loadedInto, readCode, savedBytes, savedSound, writable, writeCode, savedAccountWidth, savedContractWidth, settlementsWidth}
+use Rattle.statefile.proofs.Again.{loaded-savable, loaded-writable, sound-parts, write-again}
+use Rattle.statefile.proofs.Continued.{loadable, writable-loaded, writes}
+use Rattle.statefile.proofs.Loaded.{Loadable, loaded-declared, loaded-formed, loaded-in-use}
 use Rattle.endian.proofs.Numbers.{Bytes}
-use Rattle.saved.proofs.Reading.{length-saved, read-back, sound-back}
-use Rattle.saved.proofs.Savable.{Savable}
+use Rattle.statefile.proofs.Reading.{length-saved, read-back, sound-back}
+use Rattle.statefile.proofs.Savable.{Savable}
 use Rattle.sections.specs.Sections.{holdingWidth}
 
 -- a state that can be saved: its file is sound, so long, and gives the state again

@@ -20,10 +20,10 @@ use Rattle.rules.specs.declared.Holding.{Holding}
 use Rattle.rules.specs.declared.Order.{Order}
 use Rattle.endian.specs.Numbers.{two, four, eight, unsigned, signEnd, signedOf}
 use Rattle.sections.specs.Sections.{holdingBytes, holdingWidth}
-use Rattle.saved.specs.Saved.{asleep, contractBytes, savedContract, savedHolding, balanceWidth, savedAccountWidth, savedContractWidth}
+use Rattle.statefile.specs.StateFile.{asleep, contractBytes, savedContract, savedHolding, balanceWidth, savedAccountWidth, savedContractWidth}
 use Rattle.endian.proofs.Numbers.{Bytes, parts, two-back, four-back, eight-back, one-forth, two-forth, four-forth, eight-forth, below-8, u8-drop, u16-drop, u32-drop, u64-drop}
 use Rattle.endian.proofs.Signs.{signed-back, signed-forth}
-use Rattle.saved.proofs.Rows.{Field}
+use Rattle.statefile.proofs.Rows.{Field}
 
 -- ---- a contract in pre-open, without orders
 

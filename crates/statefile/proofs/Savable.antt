@@ -19,9 +19,9 @@ use Rattle.rules.specs.declared.Holding.{Holding}
 use Rattle.rules.specs.declared.Trade.{Trade}
 use Rattle.endian.specs.Numbers.{signEnd}
 use Rattle.invariants.proofs.Clauses.{well-formed}
-use Rattle.saved.specs.Saved.{allEqual, asleep, writable}
-use Rattle.saved.proofs.Fields.{entryOf, fitsSigned, holding, nothing-in, unmoved}
-use Rattle.saved.proofs.Rows.{fitRow}
+use Rattle.statefile.specs.StateFile.{allEqual, asleep, writable}
+use Rattle.statefile.proofs.Fields.{entryOf, fitsSigned, holding, nothing-in, unmoved}
+use Rattle.statefile.proofs.Rows.{fitRow}
 
 -- well formed and writable; counts and the arrays' places as in any state in memory
 pub record Savable (x : Exchange) : Type 0 where

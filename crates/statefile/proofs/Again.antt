@@ -17,13 +17,13 @@ use Rattle.rules.specs.WellFormed.{wellFormedContents}
 use Rattle.rules.specs.declared.Holding.{Holding}
 use Rattle.endian.specs.Numbers.{four}
 use Rattle.sections.specs.Sections.{holdingBytes, section, holdingWidth}
-use Rattle.saved.specs.Saved.{accountPlace, accountsIn, allEqual, asleep, contractPlace, countsRight, loadedFrom, markSound, rowPlace, savedBytes, savedContract, savedSound, settlementsPlace, shaped, writable, savedAccountWidth, savedContractWidth, settlementsWidth}
-use Rattle.saved.proofs.Fields.{Entry, entry, entryBytes, entryOf, holding, listing, listingBytes, listingFrom}
-use Rattle.saved.proofs.Lists.{accounts-are, accountsOf, entries-again, entriesOf, listings-are, listingsOf, rows-again, rowsOf, savedRow}
+use Rattle.statefile.specs.StateFile.{accountPlace, accountsIn, allEqual, asleep, contractPlace, countsRight, loadedFrom, markSound, rowPlace, savedBytes, savedContract, savedSound, settlementsPlace, shaped, writable, savedAccountWidth, savedContractWidth, settlementsWidth}
+use Rattle.statefile.proofs.Fields.{Entry, entry, entryBytes, entryOf, holding, listing, listingBytes, listingFrom}
+use Rattle.statefile.proofs.Lists.{accounts-are, accountsOf, entries-again, entriesOf, listings-are, listingsOf, rows-again, rowsOf, savedRow}
 use Rattle.endian.proofs.Numbers.{Bytes, four-forth, parts}
-use Rattle.saved.proofs.Reading.{entries-encoded, rows-encoded}
-use Rattle.saved.proofs.Rows.{Field, length-records, records-all, records-forth, row}
-use Rattle.saved.proofs.Savable.{Savable}
+use Rattle.statefile.proofs.Reading.{entries-encoded, rows-encoded}
+use Rattle.statefile.proofs.Rows.{Field, length-records, records-all, records-forth, row}
+use Rattle.statefile.proofs.Savable.{Savable}
 
 -- ---- what the shape of a file says
 

@@ -25,7 +25,7 @@ use Rattle.rules.specs.declared.State.{State}
 use Rattle.rules.specs.declared.Trade.{Trade}
 use Rattle.endian.specs.Numbers.{two, four, eight, unsigned, signedOf}
 use Rattle.sections.specs.Sections.{holdingBytes}
-use Rattle.saved.specs.Saved.{accountBytes, accountsIn, allEqual, asleep, contractBytes, countsRight, loadedAccount, loadedFrom, loadedInto, loadedListing, loadedState, markSound, readCode, rowBytes, savedAccount, savedBytes, savedContract, savedHolding, savedSound, shaped, totalsEqual, writable, writeCode}
+use Rattle.statefile.specs.StateFile.{accountBytes, accountsIn, allEqual, asleep, contractBytes, countsRight, loadedAccount, loadedFrom, loadedInto, loadedListing, loadedState, markSound, readCode, rowBytes, savedAccount, savedBytes, savedContract, savedHolding, savedSound, shaped, totalsEqual, writable, writeCode}
 
 -- ---- the state
 

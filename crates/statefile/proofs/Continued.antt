@@ -29,10 +29,10 @@ use Rattle.invariants.proofs.MemoryKeeps.{memory-keeps, run-keeps}
 use Rattle.invariants.proofs.MemoryKeeps.{read-back as memory-read}
 use Rattle.invariants.proofs.MemoryRoom.{memory-ok}
 use Rattle.invariants.proofs.SameInUse.{Same, same-answer, same-claim, same-run}
-use Rattle.saved.specs.Saved.{allEqual, loadedFrom, loadedInto, readCode, savedBytes, totalsEqual, writable, writeCode}
-use Rattle.saved.proofs.Loaded.{Loadable, loaded-formed, loaded-in-use}
-use Rattle.saved.proofs.Reading.{read-back, sound-back}
-use Rattle.saved.proofs.Savable.{Savable, writable-parts}
+use Rattle.statefile.specs.StateFile.{allEqual, loadedFrom, loadedInto, readCode, savedBytes, totalsEqual, writable, writeCode}
+use Rattle.statefile.proofs.Loaded.{Loadable, loaded-formed, loaded-in-use}
+use Rattle.statefile.proofs.Reading.{read-back, sound-back}
+use Rattle.statefile.proofs.Savable.{Savable, writable-parts}
 
 -- ---- a writable state is a loaded one: no trades, and equal totals
 

@@ -11,7 +11,7 @@ use Rattle.laws.specs.Lists.{getD-same}
 use Rattle.laws.specs.Tabulate.{tabulate, allOf-table}
 use Rattle.rules.specs.DayFile.{accountsIn, contractFrom, contractsIn, opening, openingAccount, openingListing}
 use Rattle.rules.specs.Exchange.{noHolding}
-use Rattle.saved.specs.Saved.{allEqual, asleep, totalsEqual, writable}
+use Rattle.statefile.specs.StateFile.{allEqual, asleep, totalsEqual, writable}
 
 sum-table : {A : Type 0} (f g : A → ℕ) (n : ℕ) (h : ℕ → A) → ((i : ℕ) → f (h i) ≡ g (h i)) → sumOf f (tabulate n h) ≡ sumOf g (tabulate n h)
 unfolding sumOf tabulate

@@ -16,9 +16,9 @@ use Rattle.rules.specs.Exchange.{Listing}
 use Rattle.rules.specs.declared.Account.{Account}
 use Rattle.rules.specs.declared.Holding.{Holding}
 use Rattle.endian.specs.Numbers.{signedOf}
-use Rattle.saved.specs.Saved.{accountPlace, accountsIn, contractPlace, loadedAccount, loadedFrom, loadedListing, markSound, rowPlace, savedAccount, savedHolding, balanceWidth, savedAccountWidth, savedContractWidth}
-use Rattle.saved.proofs.Fields.{Entry, contract-at, entry-at, entryOf, holding-at, holdingFrom, listingFrom, savedEntry}
-use Rattle.saved.proofs.Rows.{records-table}
+use Rattle.statefile.specs.StateFile.{accountPlace, accountsIn, contractPlace, loadedAccount, loadedFrom, loadedListing, markSound, rowPlace, savedAccount, savedHolding, balanceWidth, savedAccountWidth, savedContractWidth}
+use Rattle.statefile.proofs.Fields.{Entry, contract-at, entry-at, entryOf, holding-at, holdingFrom, listingFrom, savedEntry}
+use Rattle.statefile.proofs.Rows.{records-table}
 use Rattle.sections.specs.Sections.{holdingWidth}
 
 -- ---- an account of its entry and its row
