@@ -46,9 +46,10 @@ use Rattle.engine.proofs.Outcomes.{acceptance, refusal}
 use Rattle.engine.proofs.Puts.{put-queues}
 use Rattle.engine.proofs.Removals.{apart, removal-accepted, removed-none, side-few, side-once, side-room}
 use Rattle.engine.proofs.Traded.{few-after}
-use Rattle.refusals.specs.Insertion.{Present, sideArea, sideCount}
+use Rattle.engine.specs.Sides.{sideArea, sideCount}
+use Rattle.refusals.specs.Insertion.{Present}
 use Rattle.refusals.proofs.Continuous.{account-here, account-low, contract-fits, contract-here, contract-low, pulls}
-use Rattle.insertion.specs.Arrival.{Enterable, enteredIn}
+use Rattle.insertion.specs.Entry.{Enterable, enteredIn}
 use Rattle.changing.specs.Resting.{Changeable, RestingIs, lessenedIn, putBackIn, removedIn, restingRefusals, takenOut}
 use Rattle.changing.specs.declared.Resting.{Resting}
 use Rattle.changing.proofs.Finding.{lessened-none, lessened-one, missing-of, restored}

@@ -17,7 +17,7 @@ use Rattle.rules.specs.declared.Contract.{Contract}
 use Rattle.rules.specs.declared.Order.{Order}
 use Rattle.rules.specs.declared.State.{State}
 use Rattle.engine.specs.Outcome.{withCountsIn}
-use Rattle.refusals.specs.Insertion.{sideCount}
+use Rattle.engine.specs.Sides.{sideCount}
 use Rattle.changing.specs.declared.Resting.{Resting}
 
 -- the order found, as a list of one or none

@@ -11,7 +11,7 @@ ghost use Rattle.rules.specs.Bounds.{termsInRange, maxContracts};
 ghost use Rattle.rules.specs.Memory.{memory, queueIn, stepIn, firstWord, orderStride, WellFormedState};
 ghost use Rattle.rules.specs.declared.Command.the-variants.{Change};
 ghost use Rattle.engine.specs.Outcome.{OutcomeIs};
-ghost use Rattle.refusals.specs.Insertion.{sideArea, sideCount};
+ghost use Rattle.engine.specs.Sides.{sideArea, sideCount};
 ghost use Rattle.changing.specs.Resting.{RestingIs, Changeable, restingRefusals, lessenedIn, putBackIn, removedIn, takenOut};
 use book::queue;
 use engine::answers;
@@ -196,11 +196,10 @@ fn lose_place(
         put_back(buys, sells, c, count, r);
         return answers::refused(state, code);
     }
-    let arrival = insertion::arrival_of(gone, o, number, 0);
+    let arrival = insertion::arrival_of(gone, &buys[..], &sells[..], o, number, 0, gone.next);
     let accounts = gone.accounts;
     let e = insertion::enter(accounts, arrival, buys, sells, trades);
-    let after = insertion::with_entry(gone, arrival, e, gone.next);
-    answers::accepted(after, number, e.traded, e.rested)
+    answers::carried(gone, e)
 }
 
 pub fn change(

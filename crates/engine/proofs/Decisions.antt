@@ -11,19 +11,19 @@ use lib.Seq.{set-getD}
 use Rattle.laws.specs.Choice.{both-true}
 use Rattle.rules.specs.Bounds.{continuous, inAuction, maxAccounts, maxContracts}
 use Rattle.rules.specs.Exchange.{isAbsent, noAccount, noContract, placeOf}
-use Rattle.rules.specs.Memory.{memory, stepIn}
+use Rattle.rules.specs.Memory.{WellFormedState, memory, stepIn}
 use Rattle.rules.specs.Step.{withPhase}
 use Rattle.rules.specs.declared.Account.{Account}
 use Rattle.rules.specs.declared.Command.{Command}
 use Rattle.rules.specs.declared.Command.the-variants.{Phase}
 use Rattle.rules.specs.declared.Contract.{Contract}
 use Rattle.rules.specs.declared.State.{State}
-use Rattle.engine.specs.Decision.{DecisionIs, HeldBy, acceptedBy, countedAs, leftFor, listedIn, refusedBy, withListed}
+use Rattle.engine.specs.Decision.{CarriedOut, DecisionIs, HeldBy, acceptedBy, countedAs, leftFor, listedIn, refusedBy, withListed}
 use Rattle.engine.specs.Outcome.{OutcomeIs, acceptedWith, isMatch, refusedWith, withBalanceAt, withCountsIn, withPhaseAt}
 use Rattle.engine.specs.declared.updates.Decision.{Decision}
 use Rattle.engine.specs.declared.updates.Listed.{Listed}
 use Rattle.engine.specs.declared.updates.Pending.the-variants.{Matching}
-use Rattle.engine.specs.declared.updates.Update.the-variants.{Balance, Listing}
+use Rattle.engine.specs.declared.updates.Update.the-variants.{Balance, Left, Listing}
 
 -- the account that is handed over, where it is in use
 pub held-here : (s : State) (account : ℕ) {who : Account} → isAbsent account (s .accountcount) ≡ false → HeldBy s account who
@@ -57,6 +57,10 @@ module _ (s : State) (c : ℕ) where
   -- with another phase: its counts are as they were
   phased-lies : (phase : ℕ) → withListed s (phasedAs (listedIn s c) phase) ≡ withPhaseAt s c phase
   phased-lies phase = rw (set-getD (s .buycounts) c 0, set-getD (s .sellcounts) c 0)
+
+  -- as it stands
+  pub listed-lies : withListed s (listedIn s c) ≡ s
+  listed-lies = rw (set-getD (s .contracts) c noContract, set-getD (s .buycounts) c 0, set-getD (s .sellcounts) c 0)
 
 -- ---- one law for each update
 
@@ -92,9 +96,15 @@ unfolding isMatch
 match-phase s contract phase t =
     eqb-true phase continuous (both-true (eqb phase continuous) (not (isAbsent contract (s .contractcount))) (both-true (eqb phase continuous && not (isAbsent contract (s .contractcount))) (inAuction (getD (s .contracts) (placeOf contract) noContract)) t .0) .0)
 
-pub match-decided : (s : State) (buys sells trades : List ℕ) (contract phase : ℕ) {d : Decision} → isMatch s contract phase ≡ true → d ≡ leftFor (Matching contract)
+pub match-decided : {s : State} {buys sells trades : List ℕ} → WellFormedState s buys sells trades → (contract phase : ℕ) {d : Decision} → isMatch s contract phase ≡ true → d ≡ leftFor (Left (Matching contract))
     → DecisionIs (memory s buys sells trades) (Phase contract phase) d buys sells trades
-match-decided s buys sells trades contract phase t e =
+match-decided {s} {buys} {sells} {trades} w contract phase t e =
     let is : phase ≡ continuous = match-phase s contract phase t in
-    subst⁻¹ (λ (v : Decision). DecisionIs (memory s buys sells trades) (Phase contract phase) v buys sells trades) e
-    (record { told = record { same = ap (λ (n : ℕ). Phase contract n) (sym is); due = subst (λ (n : ℕ). isMatch s contract n ≡ true) is t; untouched = refl } })
+    as-told e
+    (record {
+      told =
+          record {
+            ready = record { told = (w, subst (λ (n : ℕ). isMatch s contract n ≡ true) is t) };
+            gives = λ r buys′ sells′ trades′ k. subst⁻¹ (λ (n : ℕ). CarriedOut (memory s buys sells trades) (Phase contract n) r buys′ sells′ trades′) is (k .told);
+          };
+    })

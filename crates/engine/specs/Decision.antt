@@ -7,20 +7,25 @@ use lib.ListN.{getD, set}
 use Rattle.laws.specs.Choice.{pick}
 use Rattle.rules.specs.Bounds.{continuous, maxAccounts, maxContracts}
 use Rattle.rules.specs.Exchange.{isAbsent, noAccount, noContract, placeOf}
-use Rattle.rules.specs.Memory.{Memory, memory, stepIn}
+use Rattle.rules.specs.Memory.{Memory, WellFormedState, memory, stepIn}
 use Rattle.rules.specs.Step.{answerOf}
 use Rattle.rules.specs.declared.Account.{Account}
 use Rattle.rules.specs.declared.Answer.{Answer}
 use Rattle.rules.specs.declared.Command.{Command}
-use Rattle.rules.specs.declared.Command.the-variants.{Insert, Phase, Settle, Quote, Change}
+use Rattle.rules.specs.declared.Command.the-variants.{Phase, Settle, Quote, Change}
 use Rattle.rules.specs.declared.State.{State}
-use Rattle.engine.specs.Outcome.{OutcomeIs, isMatch, withBalanceAt}
+use Rattle.engine.specs.Arrival.{ArrivedIs, Trades}
+use Rattle.engine.specs.Outcome.{OutcomeIs, isMatch, withAccountsIn, withBalanceAt}
+use Rattle.engine.specs.declared.answers.Outcome.{Outcome}
+use Rattle.engine.specs.declared.updates.Carried.{Carried}
 use Rattle.engine.specs.declared.updates.Decision.{Decision}
 use Rattle.engine.specs.declared.updates.Listed.{Listed}
 use Rattle.engine.specs.declared.updates.Pending.{Pending}
-use Rattle.engine.specs.declared.updates.Pending.the-variants.{Inserting, Changing, Quoting, Matching, Settling}
+use Rattle.engine.specs.declared.updates.Pending.the-variants.{Trading, Matching}
+use Rattle.engine.specs.declared.updates.Remaining.{Remaining}
+use Rattle.engine.specs.declared.updates.Remaining.the-variants.{Changing, Quoting, Settling}
 use Rattle.engine.specs.declared.updates.Update.{Update}
-use Rattle.engine.specs.declared.updates.Update.the-variants.{Nothing, Balance, Listing, Left}
+use Rattle.engine.specs.declared.updates.Update.the-variants.{Nothing, Balance, Listing, Left, Whole}
 
 -- ---- one contract
 
@@ -64,28 +69,52 @@ countedAs l bought sold =
 abbrev pub HeldBy : State → ℕ → Account → Type 0
 HeldBy s account who = getD (s .accounts) (pick (isAbsent account (s .accountcount)) 0 (placeOf account)) noAccount ≡ who
 
--- ---- what is left to do
+-- ---- what is left to do with all accounts
 
--- the command that it is; the change out of an auction is to continuous
-abbrev pub commandLeft : Pending → Command
-commandLeft (Inserting o) = Insert o
+-- the state with what was carried out written, and the outcome that this is
+abbrev pub withCarried : State → Carried → State
+withCarried s r = withListed (withAccountsIn s (r .accounts)) (r .listed)
+
+abbrev pub outcomeOf : State → Carried → Outcome
+outcomeOf s r = record { answer = r .answer; state = withCarried s r }
+
+-- a command carried out: written, it leaves what the rules leave, and the contract is one of the array's
+pub record CarriedOut (m : Memory) (command : Command) (r : Carried) (buys sells trades : List ℕ) : Type 0 where
+  pub place : r .listed .place < maxContracts
+  pub outcome : OutcomeIs (stepIn m command) (outcomeOf (m .state) r) buys sells trades
+
+-- what it asks for when it is carried out; a match has to be due
+abbrev pub PendingReady : State → Pending → List ℕ → List ℕ → List ℕ → Type 0
+PendingReady s (Trading a) buys sells trades = Trades (s .accounts) a buys sells trades
+PendingReady s (Matching contract) buys sells trades = WellFormedState s buys sells trades × (isMatch s contract continuous ≡ true)
+
+-- and what it then gives
+abbrev pub PendingDone : State → Pending → List ℕ → List ℕ → List ℕ → Carried → List ℕ → List ℕ → List ℕ → Type 0
+PendingDone s (Trading a) buys sells trades r buys′ sells′ trades′ = ArrivedIs (s .accounts) a buys sells trades r buys′ sells′ trades′
+PendingDone s (Matching contract) buys sells trades r buys′ sells′ trades′ = CarriedOut (memory s buys sells trades) (Phase contract continuous) r buys′ sells′ trades′
+
+pub record Carriable (s : State) (p : Pending) (buys sells trades : List ℕ) : Type 0 where
+  pub told : PendingReady s p buys sells trades
+
+pub record CarriedIs (s : State) (p : Pending) (buys sells trades : List ℕ) (r : Carried) (buys′ sells′ trades′ : List ℕ) : Type 0 where
+  pub told : PendingDone s p buys sells trades r buys′ sells′ trades′
+
+-- it can be carried out on the areas as they are by now, and whatever that gives is the command carried out
+pub record LeftIs (m : Memory) (command : Command) (p : Pending) (buys sells trades : List ℕ) : Type 0 where
+  pub ready : Carriable (m .state) p buys sells trades
+  pub gives : (r : Carried) (buys′ sells′ trades′ : List ℕ) → CarriedIs (m .state) p buys sells trades r buys′ sells′ trades′ → CarriedOut m command r buys′ sells′ trades′
+
+-- ---- what is left to do with the whole state
+
+-- the command that it is
+abbrev pub commandLeft : Remaining → Command
 commandLeft (Changing account contract number lots price) = Change account contract number lots price
 commandLeft (Quoting account contract lots buy sell) = Quote account contract lots buy sell
-commandLeft (Matching contract) = Phase contract continuous
 commandLeft Settling = Settle
 
--- a match is due where the change makes one
-abbrev pub Due : State → Pending → Type 0
-Due s (Inserting o) = Unit {0}
-Due s (Changing account contract number lots price) = Unit {0}
-Due s (Quoting account contract lots buy sell) = Unit {0}
-Due s (Matching contract) = isMatch s contract continuous ≡ true
-Due s Settling = Unit {0}
-
 -- it is this very command, and the areas are as they were
-pub record LeftIs (m : Memory) (command : Command) (p : Pending) (buys sells trades : List ℕ) : Type 0 where
+pub record WholeIs (m : Memory) (command : Command) (p : Remaining) (buys sells trades : List ℕ) : Type 0 where
   pub same : commandLeft p ≡ command
-  pub due : Due (m .state) p
   pub untouched : memory (m .state) buys sells trades ≡ m
 
 -- ---- a decision
@@ -98,6 +127,7 @@ UpdateIs m command answer (Balance a balance) buys sells trades =
 UpdateIs m command answer (Listing l) buys sells trades =
     (l .place < maxContracts) × OutcomeIs (stepIn m command) (record { answer = answer; state = withListed (m .state) l }) buys sells trades
 UpdateIs m command answer (Left p) buys sells trades = LeftIs m command p buys sells trades
+UpdateIs m command answer (Whole p) buys sells trades = WholeIs m command p buys sells trades
 
 pub record DecisionIs (m : Memory) (command : Command) (d : Decision) (buys sells trades : List ℕ) : Type 0 where
   pub told : UpdateIs m command (d .answer) (d .update) buys sells trades
@@ -110,5 +140,5 @@ refusedBy code = record { answer = answerOf code 0 0 0; update = Nothing }
 abbrev pub acceptedBy : Update → ℕ → ℕ → Decision
 acceptedBy update number lots = record { answer = answerOf 0 number 0 lots; update = update }
 
-abbrev pub leftFor : Pending → Decision
-leftFor pending = record { answer = answerOf 0 0 0 0; update = Left pending }
+abbrev pub leftFor : Update → Decision
+leftFor update = record { answer = answerOf 0 0 0 0; update = update }

@@ -1,9 +1,11 @@
 // Answers, and the tests that several kinds share.
 ghost use mathlib.Core.Path.{_≡_};
-ghost use Prim.Native.Nat.{_≤_};
-ghost use Rattle.rules.specs.Bounds.{maxAccounts};
+ghost use Prim.Native.Nat.{_<_, _≤_};
+ghost use Rattle.rules.specs.Bounds.{maxAccounts, maxContracts};
 ghost use Rattle.rules.specs.Exchange.{isAbsent};
+ghost use Rattle.engine.specs.Decision.{outcomeOf};
 ghost use Rattle.engine.specs.Outcome.{AbsentIs, refusedWith, acceptedWith};
+use crate::updates::Carried;
 use rules::Answer;
 use rules::State;
 
@@ -39,6 +41,30 @@ pub fn accepted(state: State, number: u32, traded: u32, lots: u32) -> Outcome
             lots,
         },
         state,
+    }
+}
+
+// What was carried out, written into the state.
+pub fn carried(state: State, r: Carried) -> Outcome
+    requires { ⌜ r .listed .place < maxContracts ⌝ }
+    ensures { λ t. ⌜ t ≡ outcomeOf state r ⌝ }
+{
+    let mut next = state;
+    let listed = r.listed;
+    let c = listed.place;
+    let terms = listed.terms;
+    let accounts = r.accounts;
+    let answer = r.answer;
+    next.accounts = accounts;
+    next.contracts[c] = terms;
+    next.buycounts[c] = listed.bought;
+    next.sellcounts[c] = listed.sold;
+    next.tradecount = listed.recorded;
+    next.next = listed.next;
+    next.nextstamp = listed.nextstamp;
+    Outcome {
+        answer,
+        state: next,
     }
 }
 

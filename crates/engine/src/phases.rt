@@ -79,7 +79,7 @@ pub fn change(
     ensures { λ r. ⌜ DecisionIs (memory state (now (buys .entry)) (now (sells .entry)) (now (trades .entry))) (Phase contract phase) r (now (buys .entry)) (now (sells .entry)) (now (trades .entry)) ⌝ }
 {
     if is_match(state, contract, phase) {
-        return updates::left(Pending::Matching(contract));
+        return updates::left(Update::Left(Pending::Matching(contract)));
     }
     if !is_known(phase) {
         return updates::refused(1);

@@ -4,10 +4,12 @@ ghost use mathlib.Core.Path.{_≡_};
 ghost use Prim.Native.Nat.{_<_};
 ghost use Rattle.rules.specs.Bounds.{maxContracts};
 ghost use Rattle.engine.specs.Decision.{acceptedBy, leftFor, listedIn, refusedBy};
+use rules::Account;
 use rules::Answer;
 use rules::Contract;
 use rules::NewOrder;
 use rules::State;
+use rules::Taker;
 
 // A contract as it stands: its place, its terms, the orders on either side; and what all contracts share, the day's trades and the next
 // order number and time stamp.
@@ -21,9 +23,30 @@ pub struct Listed {
     pub nextstamp: u32,
 }
 
-// What is left to do with all accounts: the kinds that may trade, the match of an auction, a settlement.
+// An order about to enter: as it was sent, as it meets the opposite queue, and its contract as it stands, with the next order number and
+// time stamp that it leaves.
+pub struct Arrival {
+    pub order: NewOrder,
+    pub taker: Taker,
+    pub listed: Listed,
+}
+
+// What is left where all accounts may have changed: the accounts, one contract, the answer. The array stands first, so that nothing
+// pads it and fewer copies of it are made.
+pub struct Carried {
+    pub accounts: [Account; rules::MAX_ACCOUNTS],
+    pub listed: Listed,
+    pub answer: Answer,
+}
+
+// What is left to do with all accounts: an order that trades, the match of an auction.
 pub enum Pending {
-    Inserting(NewOrder),
+    Trading(Arrival),
+    Matching(u32),
+}
+
+// What is left to do with the whole state.
+pub enum Remaining {
     Changing {
         account: u32,
         contract: u32,
@@ -38,16 +61,17 @@ pub enum Pending {
         buy: u32,
         sell: u32,
     },
-    Matching(u32),
     Settling,
 }
 
-// What changes: nothing, one account's balance, one contract; or nothing is done yet, and this is left to do.
+// What changes: nothing, one account's balance, one contract; or nothing is done yet, and this is left to do, with all accounts or with
+// the whole state.
 pub enum Update {
     Nothing,
     Balance { place: usize, balance: i64 },
     Listing(Listed),
     Left(Pending),
+    Whole(Remaining),
 }
 
 pub struct Decision {
@@ -86,8 +110,8 @@ pub fn accepted(update: Update, number: u32, lots: u32) -> Decision
 }
 
 // Its answer is given when it is done.
-pub fn left(pending: Pending) -> Decision
-    ensures { λ r. ⌜ r ≡ leftFor pending ⌝ }
+pub fn left(update: Update) -> Decision
+    ensures { λ r. ⌜ r ≡ leftFor update ⌝ }
 {
     Decision {
         answer: Answer {
@@ -96,7 +120,7 @@ pub fn left(pending: Pending) -> Decision
             traded: 0,
             lots: 0,
         },
-        update: Update::Left(pending),
+        update,
     }
 }
 

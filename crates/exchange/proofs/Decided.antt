@@ -15,18 +15,21 @@ use Rattle.rules.specs.Command.{isSettle}
 use Rattle.rules.specs.Exchange.{isAbsent, noAccount, placeOf}
 use Rattle.rules.specs.Memory.{Memory, WellFormedState, memory, stepIn, wellFormedMemory}
 use Rattle.rules.specs.declared.Account.{Account}
+use Rattle.rules.specs.declared.Answer.{Answer}
 use Rattle.rules.specs.declared.Command.{Command}
 use Rattle.rules.specs.declared.Command.the-variants.{Malformed}
 use Rattle.rules.specs.declared.State.{State}
 use Rattle.commands.specs.Accounts.{accountNumber, accountPlace}
-use Rattle.engine.specs.Decision.{DecisionIs, Due, HeldBy, UpdateIs, commandLeft, leftFor, refusedBy, withListed}
-use Rattle.engine.specs.Outcome.{OutcomeIs, withBalanceAt}
+use Rattle.engine.specs.Decision.{Carriable, CarriedIs, CarriedOut, DecisionIs, HeldBy, PendingDone, PendingReady, UpdateIs, commandLeft, leftFor, refusedBy, withListed}
+use Rattle.engine.specs.Outcome.{OutcomeIs, withAccountsIn, withBalanceAt}
 use Rattle.engine.specs.declared.answers.Outcome.{Outcome}
+use Rattle.engine.specs.declared.updates.Carried.{Carried}
 use Rattle.engine.specs.declared.updates.Decision.{Decision}
 use Rattle.engine.specs.declared.updates.Listed.{Listed}
 use Rattle.engine.specs.declared.updates.Pending.{Pending}
+use Rattle.engine.specs.declared.updates.Remaining.{Remaining}
 use Rattle.engine.specs.declared.updates.Update.{Update}
-use Rattle.engine.specs.declared.updates.Update.the-variants.{Nothing, Balance, Listing, Left}
+use Rattle.engine.specs.declared.updates.Update.the-variants.{Nothing, Balance, Listing, Left, Whole}
 use Rattle.engine.proofs.Decisions.{refusal-decided}
 use Rattle.engine.proofs.Formed.{formed}
 use Rattle.engine.proofs.Outcomes.{refusal}
@@ -59,7 +62,8 @@ settle-left : (command : Command) (u : Update) → isSettle command ≡ false �
 settle-left command Nothing h = h
 settle-left command (Balance a balance) h = h
 settle-left command (Listing l) h = h
-settle-left command (Left p) h = tt
+settle-left command (Left p) h = h
+settle-left command (Whole p) h = tt
 
 pub decided-as : {m : Memory} {command told : Command} {d : Decision} {buys sells trades : List ℕ} → command ≡ told → isSettle told ≡ false → DecisionIs m told d buys sells trades
     → DecidedIs m command d buys sells trades
@@ -71,11 +75,26 @@ pub malformed-decided : {s : State} {buys sells trades : List ℕ} {command : Co
 malformed-decided {s} {buys} {sells} {trades} e f =
     decided-as e refl (refusal-decided (refusal s buys sells trades Malformed 1 (omega arith) (malformed-code (memory s buys sells trades)) refl) f)
 
-pub left-decided : {s : State} {buys sells trades : List ℕ} {command : Command} {d : Decision} (p : Pending) → command ≡ commandLeft p → Due s p → d ≡ leftFor p
+pub whole-decided : {s : State} {buys sells trades : List ℕ} {command : Command} {d : Decision} (p : Remaining) → command ≡ commandLeft p → d ≡ leftFor (Whole p)
     → DecidedIs (memory s buys sells trades) command d buys sells trades
-left-decided {s} {buys} {sells} {trades} {command} p e due f =
+whole-decided {s} {buys} {sells} {trades} {command} p e f =
     subst⁻¹ (λ (v : Decision). DecidedIs (memory s buys sells trades) command v buys sells trades) f
-    (record { decision = record { told = record { same = sym e; due = due; untouched = refl } }; settles = tt })
+    (record { decision = record { told = record { same = sym e; untouched = refl } }; settles = tt })
+
+-- ---- a contract that is left to be written, by what was decided or by what was carried out
+
+pub record Joined (s : State) (buys sells trades : List ℕ) (command : Command) (next : State) (listed : Listed) (buys″ sells″ trades″ : List ℕ) : Type 0 where
+  pub place : listed .place < maxContracts
+  pub left : memory (withListed next listed) buys″ sells″ trades″ ≡ stepIn (memory s buys sells trades) command .memory
+  pub plain : isSettle command ≡ false
+
+pub joined-responded : {s : State} {buys sells trades : List ℕ} {command : Command} {next : State} {listed : Listed} {buys″ sells″ trades″ : List ℕ}
+    → Joined s buys sells trades command next listed buys″ sells″ trades″ → {answer : Answer} → answer ≡ stepIn (memory s buys sells trades) command .answer
+    → {o : Outcome} {r : Response} → o ≡ record { answer = answer; state = withListed next listed } → r ≡ withReport o noReport
+    → ResponseIs (memory s buys sells trades) command r buys″ sells″ trades″
+joined-responded {s} {buys} {sells} {trades} {command} {buys″ = buys″} {sells″ = sells″} {trades″ = trades″} j ea {o} {r} f =
+    plain-response _ command o r buys″ sells″ trades″ (j .plain)
+    (subst⁻¹ (λ (v : Outcome). OutcomeIs (stepIn (memory s buys sells trades) command) v buys″ sells″ trades″) f (record { answer = ea; memory = j .left }))
 
 -- ---- the update written, or what is left carried out
 
@@ -112,37 +131,52 @@ module _ {s : State} {buys sells trades : List ℕ} {command : Command} {d : Dec
           (subst⁻¹ (λ (z : ℤ). OutcomeIs (stepIn (memory s buys sells trades) command) (record { answer = d .answer; state = withBalanceAt s a z }) buys′ sells′ trades′) (toZ-ofZ {w = w64} fits) (told e .1)))
 
   module _ {l : Listed} (e : d .update ≡ Listing l) where
-    pub listing-place : l .place < maxContracts
-    listing-place = told e .0
+    pub listing-answered : d .answer ≡ stepIn (memory s buys sells trades) command .answer
+    listing-answered = told e .1 .answer
 
-    pub listing-left : memory (withListed s l) buys′ sells′ trades′ ≡ stepIn (memory s buys sells trades) command .memory
-    listing-left = told e .1 .memory
-
-    pub listing-responded : {o : Outcome} {r : Response} → o ≡ record { answer = d .answer; state = withListed s l } → r ≡ withReport o noReport
-        → ResponseIs (memory s buys sells trades) command r buys′ sells′ trades′
-    listing-responded {o} {r} f = plain-response _ command o r buys′ sells′ trades′ (plain e) (subst⁻¹ (λ (v : Outcome). OutcomeIs (stepIn (memory s buys sells trades) command) v buys′ sells′ trades′) f (told e .1))
+    pub listing-joined : {next : State} {listed : Listed} {buys″ sells″ trades″ : List ℕ} → next ≡ s → listed ≡ l → buys″ ≡ buys′ → sells″ ≡ sells′ → trades″ ≡ trades′
+        → Joined s buys sells trades command next listed buys″ sells″ trades″
+    listing-joined en el eb es et = rw (en, el, eb, es, et) (record { place = told e .0; left = told e .1 .memory; plain = plain e })
 
   module _ {p : Pending} (e : d .update ≡ Left p) where
-    pub pending-ready : WellFormedState s buys sells trades → WellFormedState s buys′ sells′ trades′ × Due s p
-    pending-ready w =
-        (record { declared = w .declared; formed = subst⁻¹ (λ (v : Memory). wellFormedMemory v ≡ true) (told e .untouched) (w .formed) }, told e .due)
+    pub pending-ready : Carriable s p buys′ sells′ trades′
+    pending-ready = told e .ready
 
-    pub pending-responded : {r : Response} {buys″ sells″ trades″ : List ℕ} → ResponseIs (memory s buys′ sells′ trades′) (commandLeft p) r buys″ sells″ trades″
+    module _ {t : Carried} {buys″ sells″ trades″ : List ℕ} (done : CarriedIs s p buys′ sells′ trades′ t buys″ sells″ trades″) where
+      carried : CarriedOut (memory s buys sells trades) command t buys″ sells″ trades″
+      carried = told e .gives t buys″ sells″ trades″ done
+
+      pub pending-answered : t .answer ≡ stepIn (memory s buys sells trades) command .answer
+      pending-answered = carried .outcome .answer
+
+      pub pending-joined : {next : State} {listed : Listed} {buys₃ sells₃ trades₃ : List ℕ} → next ≡ withAccountsIn s (t .accounts) → listed ≡ t .listed → buys₃ ≡ buys″ → sells₃ ≡ sells″ → trades₃ ≡ trades″
+          → Joined s buys sells trades command next listed buys₃ sells₃ trades₃
+      pending-joined en el eb es et = rw (en, el, eb, es, et) (record { place = carried .place; left = carried .outcome .memory; plain = plain e })
+
+  module _ {p : Remaining} (e : d .update ≡ Whole p) where
+    pub whole-ready : WellFormedState s buys sells trades → WellFormedState s buys′ sells′ trades′
+    whole-ready w = record { declared = w .declared; formed = subst⁻¹ (λ (v : Memory). wellFormedMemory v ≡ true) (told e .untouched) (w .formed) }
+
+    pub whole-responded : {r : Response} {buys″ sells″ trades″ : List ℕ} → ResponseIs (memory s buys′ sells′ trades′) (commandLeft p) r buys″ sells″ trades″
         → ResponseIs (memory s buys sells trades) command r buys″ sells″ trades″
-    pending-responded {r} {buys″} {sells″} {trades″} h =
+    whole-responded {r} {buys″} {sells″} {trades″} h =
         subst (λ (c : Command). ResponseIs (memory s buys sells trades) c r buys″ sells″ trades″) (told e .same)
         (subst (λ (v : Memory). ResponseIs v (commandLeft p) r buys″ sells″ trades″) (told e .untouched) h)
 
 -- ---- what is left, of a kind
 
-pub plain-left : (m : Memory) {pending p : Pending} (o : Outcome) {r : Response} {buys sells trades : List ℕ} → pending ≡ p → isSettle (commandLeft p) ≡ false
-    → OutcomeIs (stepIn m (commandLeft p)) o buys sells trades → r ≡ withReport o noReport → ResponseIs m (commandLeft pending) r buys sells trades
+pub pending-as : (s : State) (buys sells trades : List ℕ) {pending p : Pending} → pending ≡ p → Carriable s pending buys sells trades → PendingReady s p buys sells trades
+pending-as s buys sells trades e h = subst (λ (v : Pending). PendingReady s v buys sells trades) e (h .told)
+
+pub done-as : (s : State) (buys sells trades : List ℕ) {pending p : Pending} → pending ≡ p → {r : Carried} (buys′ sells′ trades′ : List ℕ) → PendingDone s p buys sells trades r buys′ sells′ trades′
+    → CarriedIs s pending buys sells trades r buys′ sells′ trades′
+done-as s buys sells trades e {r} buys′ sells′ trades′ h = subst⁻¹ (λ (v : Pending). CarriedIs s v buys sells trades r buys′ sells′ trades′) e (record { told = h })
+
+pub plain-left : (m : Memory) {remaining p : Remaining} (o : Outcome) {r : Response} {buys sells trades : List ℕ} → remaining ≡ p → isSettle (commandLeft p) ≡ false
+    → OutcomeIs (stepIn m (commandLeft p)) o buys sells trades → r ≡ withReport o noReport → ResponseIs m (commandLeft remaining) r buys sells trades
 plain-left m {p = p} o {r} {buys} {sells} {trades} e n k f =
-    subst⁻¹ (λ (v : Pending). ResponseIs m (commandLeft v) r buys sells trades) e (plain-response m (commandLeft p) o r buys sells trades n k f)
+    subst⁻¹ (λ (v : Remaining). ResponseIs m (commandLeft v) r buys sells trades) e (plain-response m (commandLeft p) o r buys sells trades n k f)
 
-pub settled-left : (m : Memory) {pending p : Pending} {r : Response} {buys sells trades : List ℕ} → pending ≡ p → ResponseIs m (commandLeft p) r buys sells trades
-    → ResponseIs m (commandLeft pending) r buys sells trades
-settled-left m {r = r} {buys = buys} {sells = sells} {trades = trades} e k = subst⁻¹ (λ (v : Pending). ResponseIs m (commandLeft v) r buys sells trades) e k
-
-pub due-as : (s : State) {pending p : Pending} → pending ≡ p → Due s pending → Due s p
-due-as s e h = subst (Due s) e h
+pub settled-left : (m : Memory) {remaining p : Remaining} {r : Response} {buys sells trades : List ℕ} → remaining ≡ p → ResponseIs m (commandLeft p) r buys sells trades
+    → ResponseIs m (commandLeft remaining) r buys sells trades
+settled-left m {r = r} {buys = buys} {sells = sells} {trades = trades} e k = subst⁻¹ (λ (v : Remaining). ResponseIs m (commandLeft v) r buys sells trades) e k

@@ -29,28 +29,37 @@ fn run_through(
         let who = current.accounts[a];
         let decision = step::decide(current, who, buys, sells, &trades[..], command);
         let update = decision.update;
-        match update {
-            Update::Nothing => {}
+        let listed = match update {
+            Update::Nothing => {
+                continue;
+            }
             Update::Balance { place, balance } => {
                 let mut holder = current.accounts[place];
                 holder.balance = balance;
                 current.accounts[place] = holder;
+                continue;
             }
-            Update::Listing(l) => {
-                let c = l.place;
-                let terms = l.terms;
-                current.contracts[c] = terms;
-                current.buycounts[c] = l.bought;
-                current.sellcounts[c] = l.sold;
-                current.tradecount = l.recorded;
-                current.next = l.next;
-                current.nextstamp = l.nextstamp;
-            }
+            Update::Listing(l) => l,
             Update::Left(pending) => {
-                let r = step::carry_out(current, buys, sells, trades, pending);
-                current = r.state;
+                let t = step::carry_out(current, buys, sells, trades, pending);
+                let held = t.accounts;
+                current.accounts = held;
+                t.listed
             }
-        }
+            Update::Whole(remaining) => {
+                let r = step::carry_whole(current, buys, sells, trades, remaining);
+                current = r.state;
+                continue;
+            }
+        };
+        let c = listed.place;
+        let terms = listed.terms;
+        current.contracts[c] = terms;
+        current.buycounts[c] = listed.bought;
+        current.sellcounts[c] = listed.sold;
+        current.tradecount = listed.recorded;
+        current.next = listed.next;
+        current.nextstamp = listed.nextstamp;
     }
     current
 }

@@ -2,7 +2,7 @@
 // our own crates.
 ghost use Rattle.rules.specs.Memory.{memory, WellFormedState};
 ghost use Rattle.commands.specs.Accounts.{accountNumber};
-ghost use Rattle.engine.specs.Decision.{Due, HeldBy, commandLeft};
+ghost use Rattle.engine.specs.Decision.{Carriable, CarriedIs, HeldBy, commandLeft};
 ghost use Rattle.exchange.specs.Decided.{DecidedIs};
 ghost use Rattle.exchange.specs.Response.{ResponseIs};
 use crate::settling;
@@ -12,8 +12,10 @@ use engine::payments;
 use engine::phases;
 use engine::removal;
 use engine::updates;
+use engine::updates::Carried;
 use engine::updates::Decision;
 use engine::updates::Pending;
+use engine::updates::Remaining;
 use engine::updates::Update;
 use rules::Account;
 use rules::Command;
@@ -39,7 +41,7 @@ pub fn decide(
         Command::Withdraw { account, amount } => {
             payments::withdraw(state, who, &buys[..], &sells[..], trades, account, amount)
         }
-        Command::Insert(o) => updates::left(Pending::Inserting(o)),
+        Command::Insert(o) => insertion::insert(state, who, buys, sells, trades, o),
         Command::Cancel {
             account,
             contract,
@@ -63,33 +65,33 @@ pub fn decide(
         Command::Phase { contract, phase } => {
             phases::change(state, &buys[..], &sells[..], trades, contract, phase)
         }
-        Command::Settle => updates::left(Pending::Settling),
+        Command::Settle => updates::left(Update::Whole(Remaining::Settling)),
         Command::Quote {
             account,
             contract,
             lots,
             buy,
             sell,
-        } => updates::left(Pending::Quoting {
+        } => updates::left(Update::Whole(Remaining::Quoting {
             account,
             contract,
             lots,
             buy,
             sell,
-        }),
+        })),
         Command::Change {
             account,
             contract,
             number,
             lots,
             price,
-        } => updates::left(Pending::Changing {
+        } => updates::left(Update::Whole(Remaining::Changing {
             account,
             contract,
             number,
             lots,
             price,
-        }),
+        })),
     }
 }
 
@@ -100,15 +102,34 @@ pub fn carry_out(
     sells: &mut [u32],
     trades: &mut [u32],
     pending: Pending,
-) -> Response
-    requires { ⌜ WellFormedState state (now buys) (now sells) (now trades) × Due state pending ⌝ }
-    ensures { λ r. ⌜ ResponseIs (memory state (now (buys .entry)) (now (sells .entry)) (now (trades .entry))) (commandLeft pending) r (now (buys .exit)) (now (sells .exit)) (now (trades .exit)) ⌝ }
+) -> Carried
+    requires { ⌜ Carriable state pending (now buys) (now sells) (now trades) ⌝ }
+    ensures { λ r. ⌜ CarriedIs state pending (now (buys .entry)) (now (sells .entry)) (now (trades .entry)) r (now (buys .exit)) (now (sells .exit)) (now (trades .exit)) ⌝ }
 {
     match pending {
-        Pending::Inserting(o) => {
-            settling::plain(insertion::insert(state, buys, sells, trades, o))
+        Pending::Trading(a) => {
+            let accounts = state.accounts;
+            insertion::trade(accounts, a, buys, sells, trades)
         }
-        Pending::Changing {
+        Pending::Matching(contract) => {
+            opening::leave_auction(state, buys, sells, trades, contract)
+        }
+    }
+}
+
+// What is left of a command, carried out on the whole state.
+pub fn carry_whole(
+    state: State,
+    buys: &mut [u32],
+    sells: &mut [u32],
+    trades: &mut [u32],
+    remaining: Remaining,
+) -> Response
+    requires { ⌜ WellFormedState state (now buys) (now sells) (now trades) ⌝ }
+    ensures { λ r. ⌜ ResponseIs (memory state (now (buys .entry)) (now (sells .entry)) (now (trades .entry))) (commandLeft remaining) r (now (buys .exit)) (now (sells .exit)) (now (trades .exit)) ⌝ }
+{
+    match remaining {
+        Remaining::Changing {
             account,
             contract,
             number,
@@ -125,7 +146,7 @@ pub fn carry_out(
             lots,
             price,
         )),
-        Pending::Quoting {
+        Remaining::Quoting {
             account,
             contract,
             lots,
@@ -142,10 +163,7 @@ pub fn carry_out(
             buy,
             sell,
         )),
-        Pending::Matching(contract) => {
-            settling::plain(opening::leave_auction(state, buys, sells, trades, contract))
-        }
-        Pending::Settling => settling::settle(state, buys, sells, trades),
+        Remaining::Settling => settling::settle(state, buys, sells, trades),
     }
 }
 
@@ -163,36 +181,46 @@ pub fn step(
     let a = commands::account_place(command, next.accountcount);
     let who = next.accounts[a];
     let decision = decide(next, who, buys, sells, &trades[..], command);
-    let answer = decision.answer;
+    let mut answer = decision.answer;
     let update = decision.update;
-    match update {
-        Update::Nothing => settling::plain(Outcome {
-            answer,
-            state: next,
-        }),
+    let listed = match update {
+        Update::Nothing => {
+            return settling::plain(Outcome {
+                answer,
+                state: next,
+            });
+        }
         Update::Balance { place, balance } => {
             let mut holder = next.accounts[place];
             holder.balance = balance;
             next.accounts[place] = holder;
-            settling::plain(Outcome {
+            return settling::plain(Outcome {
                 answer,
                 state: next,
-            })
+            });
         }
-        Update::Listing(l) => {
-            let c = l.place;
-            let terms = l.terms;
-            next.contracts[c] = terms;
-            next.buycounts[c] = l.bought;
-            next.sellcounts[c] = l.sold;
-            next.tradecount = l.recorded;
-            next.next = l.next;
-            next.nextstamp = l.nextstamp;
-            settling::plain(Outcome {
-                answer,
-                state: next,
-            })
+        Update::Listing(l) => l,
+        Update::Left(pending) => {
+            let t = carry_out(next, buys, sells, trades, pending);
+            let held = t.accounts;
+            next.accounts = held;
+            answer = t.answer;
+            t.listed
         }
-        Update::Left(pending) => carry_out(next, buys, sells, trades, pending),
-    }
+        Update::Whole(remaining) => {
+            return carry_whole(next, buys, sells, trades, remaining);
+        }
+    };
+    let c = listed.place;
+    let terms = listed.terms;
+    next.contracts[c] = terms;
+    next.buycounts[c] = listed.bought;
+    next.sellcounts[c] = listed.sold;
+    next.tradecount = listed.recorded;
+    next.next = listed.next;
+    next.nextstamp = listed.nextstamp;
+    settling::plain(Outcome {
+        answer,
+        state: next,
+    })
 }

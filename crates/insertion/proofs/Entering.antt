@@ -2,7 +2,7 @@
 -- next number. Assumes nothing.
 use mathlib.Core.Bool.{Bool, true, false, not}
 use mathlib.Core.List.{List}
-use mathlib.Core.Path.{_≡_, refl, sym, ap, _∙_}
+use mathlib.Core.Path.{_≡_, refl, sym, ap, _∙_, subst⁻¹}
 use Prim.Native.Nat.{ℕ, _+_, _<_, _≤_}
 use native.Mathlib.Omega.{arith}
 use borrow.Author.Tests.{le-ltb, ltb-false}
@@ -13,31 +13,35 @@ use Rattle.rules.specs.Bounds.{inAuction, maxResting, maxTrades, maxContracts, 
 use Rattle.rules.specs.Exchange.{Exchange, Listing, opposite, own, placeOf, withQueues}
 use Rattle.rules.specs.Kinds.{codeOf, decide, kindOf}
 use Rattle.rules.specs.Matching.{Entered, enter, sweep}
-use Rattle.rules.specs.Memory.{Memory, WellFormedState, exchangeOf, memory, put, putQueue, queueIn, stepIn}
+use Rattle.rules.specs.Memory.{AfterCommand, Memory, WellFormedState, exchangeOf, memory, put, putQueue, queueIn, stepIn}
 use Rattle.rules.specs.Step.{enteredOf, exchangeAfter, inserted, listingAfter, withTrades}
 use Rattle.rules.specs.declared.Command.the-variants.{Insert}
 use Rattle.rules.specs.declared.Contract.{Contract}
 use Rattle.rules.specs.declared.NewOrder.{NewOrder}
 use Rattle.rules.specs.declared.Order.{Order}
 use Rattle.rules.specs.declared.State.{State}
+use Rattle.rules.specs.declared.Taker.{Taker}
 use Rattle.rules.proofs.AuctionSteps.{trades-needed as trades-entered}
 use Rattle.rules.proofs.Terms.{terms}
 use Rattle.rules.proofs.Refusals.{failed}
 use Rattle.prices.proofs.Methods.{method-has-tick}
-use Rattle.matching.specs.Entry.{EntryIs}
 use Rattle.matching.specs.Sweep.{SweepReady}
-use Rattle.matching.specs.declared.entry.Entry.{Entry}
 use Rattle.invariants.proofs.Clauses.{Counted, WellFormed, well-formed, well-formed-test}
 use Rattle.invariants.proofs.Insert.{entered-counted, entered-keeps}
 use Rattle.invariants.proofs.InsertAccepted.{Given, Passes, next-given, numbered, passes}
 use Rattle.invariants.proofs.Marks.{Marks, no-mark}
 use Rattle.invariants.proofs.MemoryKeeps.{sound}
 use Rattle.invariants.proofs.Traded.{traded-counted}
-use Rattle.refusals.specs.Insertion.{Present, sideArea, sideCount}
-use Rattle.insertion.specs.Arrival.{Enterable, ArrivedIs, Ready, arrivalOf, countOf, enteredFor, enteredIn, withEntry}
-use Rattle.insertion.specs.declared.Arrival.{Arrival}
-use Rattle.engine.specs.Outcome.{OutcomeIs, acceptedWith}
+use Rattle.engine.specs.Sides.{sideArea, sideCount}
+use Rattle.refusals.specs.Insertion.{Present, QueueRoom}
+use Rattle.insertion.specs.Entry.{Enterable, Known, arrivalOf, enteredIn}
+use Rattle.engine.specs.Arrival.{Arrived, ArrivedIs, Ready, enteredFor, ordersOn}
+use Rattle.engine.specs.Decision.{listedIn, outcomeOf, withCarried}
+use Rattle.engine.specs.Outcome.{OutcomeIs}
 use Rattle.engine.specs.declared.answers.Outcome.{Outcome}
+use Rattle.engine.specs.declared.updates.Arrival.{Arrival}
+use Rattle.engine.specs.declared.updates.Carried.{Carried}
+use Rattle.engine.specs.declared.updates.Listed.{Listed}
 use Rattle.engine.proofs.Formed.{Formed, contracts-count, formed, no-account, no-contract}
 use Rattle.engine.proofs.Puts.{trades-count}
 use Rattle.engine.proofs.Traded.{few-after, put-traded}
@@ -62,6 +66,25 @@ module _ (buys sells bought sold : List ℕ) (c : ℕ) (mine others : List Order
       ≡ pick sell (putQueue (pick sell sells buys) c (getD (pick sell sold bought) c 0) mine) (putQueue (pick (not sell) sells buys) c (getD (pick (not sell) sold bought) c 0) others)
   put-sells true = refl
   put-sells false = refl
+
+-- ---- the order as it arrives, made of what is read
+
+module _ (s : State) (buys sells : List ℕ) (o : NewOrder) {area : List ℕ} (ea : area ≡ sideArea (not (o .sell)) buys sells)
+    {place : ℕ} (ep : place ≡ placeOf (o .contract)) {l : Listed} (el : l ≡ listedIn s place) {count : ℕ} (ec : count ≡ pick (o .sell) (l .bought) (l .sold)) where
+  opposite-count : (sell : Bool) → pick sell (getD (s .buycounts) (placeOf (o .contract)) 0) (getD (s .sellcounts) (placeOf (o .contract)) 0) ≡ sideCount (not sell) s (placeOf (o .contract))
+  opposite-count true = refl
+  opposite-count false = refl
+
+  count-here : count ≡ sideCount (not (o .sell)) s (placeOf (o .contract))
+  count-here = ec ∙ rw (el, ep) (opposite-count (o .sell))
+
+  pub arrival-room : Known s buys sells o → QueueRoom area (placeOf (o .contract)) count
+  arrival-room k = rw (ea, count-here) (k .opposite)
+
+  pub arrival-made : (number quote next : ℕ) {t : Taker} → t ≡ takerFor number quote (l .nextstamp) (l .terms) (queueIn area (placeOf (o .contract)) count) o
+      → record { order = o; taker = t; listed = record { place = l .place; terms = l .terms; bought = l .bought; sold = l .sold; recorded = l .recorded; next = next; nextstamp = l .nextstamp + 1 } }
+      ≡ arrivalOf s buys sells o number quote next
+  arrival-made number quote next et = rw (et, ea, count-here, el, ep)
 
 module _ {s : State} {buys sells trades : List ℕ} (w : WellFormedState s buys sells trades) (o : NewOrder) (number quote next : ℕ)
     (g : Enterable s buys sells trades o number quote next) where
@@ -89,12 +112,12 @@ module _ {s : State} {buys sells trades : List ℕ} (w : WellFormedState s buys 
   others = queueIn (sideArea (not (o .sell)) buys sells) c (sideCount (not (o .sell)) s c)
 
   abbrev arriving-order : Arrival
-  arriving-order = arrivalOf s o number quote
+  arriving-order = arrivalOf s buys sells o number quote next
 
   abbrev termsIn : Contract
-  termsIn = arriving-order .terms
+  termsIn = arriving-order .listed .terms
 
-  count-is : (side : Bool) → countOf side arriving-order ≡ sideCount side s c
+  count-is : (side : Bool) → ordersOn side (arriving-order .listed) ≡ sideCount side s c
   count-is true = refl
   count-is false = refl
 
@@ -171,32 +194,39 @@ module _ {s : State} {buys sells trades : List ℕ} (w : WellFormedState s buys 
             };
       }
 
-  pub arrives : (1 ≤ o .contract) × (placeOf (o .contract) < maxContracts)
-  arrives = (here .contract-low, omega (arith, here .contract, f .contracts-high))
-
-  pub ready : {a : Arrival} → a ≡ arrivalOf s o number quote → Ready (s .accounts) a buys sells trades
-  ready is =
-      rw (is, count-is (o .sell), count-is (not (o .sell)))
-      (record {
+  pub known : Known s buys sells o
+  known =
+      record {
         account-low = here .account-low;
         contract-low = here .contract-low;
-        place = refl;
-        queue = side-room m f c (here .contract) (not (o .sell));
-        rests = omega (arith, own-few, side-long m f c (here .contract) (o .sell));
-        sweeps = sweeps;
-      })
+        contract = omega (arith, here .contract, f .contracts-high);
+        stamp = g .stamp;
+        opposite = side-room m f c (here .contract) (not (o .sell));
+      }
 
-  pub leaves-room : {a : Arrival} → a ≡ arrivalOf s o number quote → (a .place < maxContracts) × (s .nextstamp < numbersEnd)
-  leaves-room is = (rw is (arrives .1), g .stamp)
+  pub ready : {a : Arrival} → a ≡ arrivalOf s buys sells o number quote next → Ready (s .accounts) a buys sells trades
+  ready is =
+      rw is
+      (record {
+        arrives =
+            rw (count-is (o .sell), count-is (not (o .sell)))
+            (record {
+              place = refl;
+              fits = known .contract;
+              queue = side-room m f c (here .contract) (not (o .sell)) .room;
+              rests = omega (arith, own-few, side-long m f c (here .contract) (o .sell));
+            });
+        sweeps = rw (count-is (not (o .sell))) sweeps;
+      })
 
   -- ---- written into the memory
 
-  module _ {r : Entry} {owns′ opposites′ area′ : List ℕ}
-      (is : EntryIs entered c (sideArea (o .sell) buys sells) (sideCount (o .sell) s c) (sideArea (not (o .sell)) buys sells) (sideCount (not (o .sell)) s c) trades (s .tradecount) (termsIn .last) (s .accounts) r owns′ opposites′ area′) where
-    lies : put m after ≡ memory (withEntry s arriving-order r next) (pick (o .sell) opposites′ owns′) (pick (o .sell) owns′ opposites′) area′
+  module _ {r : Carried} {owns′ opposites′ area′ : List ℕ}
+      (is : Arrived entered (s .accounts) arriving-order (sideArea (o .sell) buys sells) (sideCount (o .sell) s c) (sideArea (not (o .sell)) buys sells) (sideCount (not (o .sell)) s c) trades r owns′ opposites′ area′) where
+    lies : put m after ≡ memory (withCarried s r) (pick (o .sell) opposites′ owns′) (pick (o .sell) owns′ opposites′) area′
     unfolding listingAfter listingOf exchangeOf
     lies =
-        rw (is .last, is .made, is .accounts, is .own-count, is .opposite-count, is .own-queue, is .opposite-queue, is .trades)
+        rw (is .listed, is .accounts-booked, is .own-queue, is .opposite-queue, is .trades)
         (put-traded m f c listing (entered .trades) next (x .nextstamp + 1) (here .contract) after-formed after-counted
         ∙ rw (
           contract-is m f c (here .contract),
@@ -216,22 +246,26 @@ module _ {s : State} {buys sells trades : List ℕ} (w : WellFormedState s buys 
   lent-sells buys′ sells′ true = refl
   lent-sells buys′ sells′ false = refl
 
-  module _ {a : Arrival} (is : a ≡ arrivalOf s o number quote) {r : Entry} (buys′ sells′ : List ℕ) {trades′ : List ℕ}
+  module _ {a : Arrival} (is : a ≡ arrivalOf s buys sells o number quote next) {r : Carried} (buys′ sells′ : List ℕ) {trades′ : List ℕ}
       (arrived : ArrivedIs (s .accounts) a buys sells trades r buys′ sells′ trades′) where
-    entry : EntryIs entered c (sideArea (o .sell) buys sells) (sideCount (o .sell) s c) (sideArea (not (o .sell)) buys sells) (sideCount (not (o .sell)) s c) trades (s .tradecount) (termsIn .last) (s .accounts) r
+    entry : Arrived entered (s .accounts) arriving-order (sideArea (o .sell) buys sells) (sideCount (o .sell) s c) (sideArea (not (o .sell)) buys sells) (sideCount (not (o .sell)) s c) trades r
         (sideArea (o .sell) buys′ sells′) (sideArea (not (o .sell)) buys′ sells′) trades′
-    entry = (rw (is, count-is (o .sell), count-is (not (o .sell))) at arrived) .entry
+    entry = rw (is, count-is (o .sell), count-is (not (o .sell))) at arrived
 
-    pub order-entered : {left : State} {result : Outcome} → left ≡ withEntry s a r next → result ≡ acceptedWith left number (r .traded) (r .rested)
-        → OutcomeIs (enteredIn m o number quote next) result buys′ sells′ trades′
+    pub entered-place : r .listed .place < maxContracts
+    entered-place = rw (entry .listed) (known .contract)
+
+    pub order-entered : OutcomeIs (enteredIn m o number quote next) (outcomeOf s r) buys′ sells′ trades′
     unfolding exchangeAfter
-    order-entered el e =
+    order-entered =
         record {
-          answer = ap (λ (q : Outcome). q .answer) e ∙ rw (entered-is, entry .traded, entry .rested);
-          memory =
-              ap (λ (q : Outcome). memory (q .state) buys′ sells′ trades′) e
-              ∙ sym (rw (el, is, entered-is) (rw (lent-buys buys′ sells′ (o .sell), lent-sells buys′ sells′ (o .sell)) at (lies entry)));
+          answer = entry .answer ∙ rw entered-is;
+          memory = sym (rw entered-is (rw (lent-buys buys′ sells′ (o .sell), lent-sells buys′ sells′ (o .sell)) at (lies entry)));
         }
+
+-- an outcome that the code makes
+pub carried-told : {o result : Outcome} {left : AfterCommand} {buys sells trades : List ℕ} → result ≡ o → OutcomeIs left o buys sells trades → OutcomeIs left result buys sells trades
+carried-told {left = left} {buys = buys} {sells = sells} {trades = trades} e k = subst⁻¹ (λ (v : Outcome). OutcomeIs left v buys sells trades) e k
 
 -- ---- an order that passes its tests may be entered
 

@@ -2,7 +2,7 @@
 -- Assumes nothing.
 use mathlib.Core.Bool.{Bool, true, false, not, _&&_}
 use mathlib.Core.List.{List}
-use mathlib.Core.Path.{_≡_, ap, _∙_}
+use mathlib.Core.Path.{_≡_, refl, ap, _∙_, subst⁻¹}
 use Prim.Native.Nat.{ℕ, _+_, _<_, _≤_}
 use native.Mathlib.Omega.{arith}
 use borrow.Author.Tests.{eqb-true, le-leb, le-ltb, lt-ltb, not-true}
@@ -31,29 +31,18 @@ use Rattle.auction.proofs.Chosen.{level-auction}
 use Rattle.invariants.proofs.Clauses.{Counted, WellFormed, order-ok}
 use Rattle.invariants.proofs.MemoryKeeps.{sound}
 use Rattle.invariants.proofs.Phases.{phase-counted, phase-keeps}
-use Rattle.engine.specs.Outcome.{OutcomeIs, acceptedWith, isMatch, refusedWith}
-use Rattle.engine.specs.declared.answers.Outcome.{Outcome}
+use Rattle.engine.specs.Decision.{CarriedOut, listedIn, withCarried}
+use Rattle.engine.specs.Outcome.{isMatch, refusedWith}
+use Rattle.engine.specs.declared.updates.Carried.{Carried}
+use Rattle.engine.specs.declared.updates.Listed.{Listed}
+use Rattle.engine.proofs.Decisions.{listed-lies}
 use Rattle.engine.proofs.Changes.{from-auction, phase-code}
 use Rattle.engine.proofs.Formed.{Formed, accounts-count, contracts-count, formed, listing-at}
 use Rattle.engine.proofs.Margins.{chargeable}
 use Rattle.engine.proofs.Outcomes.{acceptance, refusal}
 use Rattle.engine.proofs.Tests.{place-below}
 use Rattle.engine.proofs.Traded.{put-traded}
-use Rattle.opening.specs.Opening.{withMatch}
-
--- it is the change to continuous
-module _ (s : State) (contract phase : ℕ) (yes : isMatch s contract phase ≡ true) where
-  to-continuous : phase ≡ continuous
-  unfolding isMatch
-  to-continuous =
-      let b = both-true (eqb phase 1 && not (isAbsent contract (s .contractcount))) (inAuction (getD (s .contracts) (placeOf contract) noContract)) yes in
-      eqb-true phase 1 (both-true (eqb phase 1) (not (isAbsent contract (s .contractcount))) (b .0) .0)
-
-  pub is-the-match : isMatch s contract continuous ≡ true
-  is-the-match = rw to-continuous at yes
-
-  pub changed : (m : Memory) {r : Outcome} {buys sells trades : List ℕ} → OutcomeIs (stepIn m (Phase contract continuous)) r buys sells trades → OutcomeIs (stepIn m (Phase contract phase)) r buys sells trades
-  changed m o = rw to-continuous o
+use Rattle.opening.specs.Opening.{matchedAs, refusedAt}
 
 module _ {s : State} {buys sells trades : List ℕ} (w : WellFormedState s buys sells trades) (contract : ℕ) (yes : isMatch s contract continuous ≡ true) where
   abbrev m : Memory
@@ -155,8 +144,15 @@ module _ {s : State} {buys sells trades : List ℕ} (w : WellFormedState s buys 
           omega (arith, needed-is, auction-count c (terms .last) bids asks, length-queue buys c (getD (s .buycounts) c 0), length-queue sells c (getD (s .sellcounts) c 0), room .few-buys, room .few-sells, f .trades-high)
 
       -- 12
-      pub left-full : {r : Outcome} → maxTrades < s .tradecount + needed → r ≡ refusedWith s 12 → OutcomeIs (stepIn m (Phase contract continuous)) r buys sells trades
-      left-full h = refusal s buys sells trades (Phase contract continuous) 12 (omega arith) (code-is ∙ rw (← needed-is, lt-ltb _ _ h))
+      pub left-full : {r : Carried} → maxTrades < s .tradecount + needed → r ≡ refusedAt s place 12 → CarriedOut m (Phase contract continuous) r buys sells trades
+      left-full h e =
+          subst⁻¹ (λ (v : Carried). CarriedOut m (Phase contract continuous) v buys sells trades) e
+          (record {
+            place = omega (arith, is, here, f .contracts-high);
+            outcome =
+                refusal s buys sells trades (Phase contract continuous) 12 (omega arith) (code-is ∙ rw (← needed-is, lt-ltb _ _ h))
+                (ap (λ (v : State). refusedWith v 12) (listed-lies s place));
+          })
 
       module _ (h : s .tradecount + needed ≤ maxTrades) where
         accepted : codeOf x (Phase contract continuous) ≡ 0
@@ -204,7 +200,10 @@ module _ {s : State} {buys sells trades : List ℕ} (w : WellFormedState s buys 
           made : MatchedIs matched c (terms .last) (s .accounts) buys (getD (s .buycounts) c 0) sells (getD (s .sellcounts) c 0) trades (s .tradecount) r buys′ sells′ area′
           made = rw (is, same, level-is) at outcome
 
-          lies : written m (kindOf x (Phase contract continuous) .effect .stages) ≡ memory (withMatch s place r) buys′ sells′ area′
+          abbrev carried : Carried
+          carried = record { accounts = r .accounts; listed = matchedAs (listedIn s place) r; answer = answerOf 0 0 (r .traded) 0 }
+
+          lies : written m (kindOf x (Phase contract continuous) .effect .stages) ≡ memory (withCarried s carried) buys′ sells′ area′
           unfolding kindOf phaseChanged exchangeMatched listingMatched exchangeOf listingIn
           lies =
               put-traded m f c listing (matchOf x c .trades) (x .next) (x .nextstamp) here kept counted
@@ -214,6 +213,11 @@ module _ {s : State} {buys sells trades : List ℕ} (w : WellFormedState s buys 
           unfolding kindOf phaseChanged
           answer-is = rw (match-is, made .booked .traded)
 
-          pub left-accepted : {next : State} {result : Outcome} → next ≡ withMatch s place r → result ≡ acceptedWith next 0 (r .traded) 0
-              → OutcomeIs (stepIn m (Phase contract continuous)) result buys′ sells′ area′
-          left-accepted en e = acceptance s buys sells trades (Phase contract continuous) accepted answer-is (lies ∙ rw en) e
+          pub left-accepted : {l : Listed} → l ≡ matchedAs (listedIn s place) r
+              → CarriedOut m (Phase contract continuous) (record { accounts = r .accounts; listed = l; answer = answerOf 0 0 (r .traded) 0 }) buys′ sells′ area′
+          left-accepted el =
+              rw el
+              (record {
+                place = omega (arith, is, here, f .contracts-high);
+                outcome = acceptance s buys sells trades (Phase contract continuous) accepted answer-is lies refl;
+              })

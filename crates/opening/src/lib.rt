@@ -4,44 +4,52 @@ ghost use mathlib.Core.Bool.{true};
 ghost use mathlib.Core.Path.{_≡_};
 ghost use Prim.Native.Nat.{_<_};
 ghost use Rattle.rules.specs.Bounds.{continuous, maxContracts};
-ghost use Rattle.rules.specs.Memory.{WellFormedState, memory, stepIn};
+ghost use Rattle.rules.specs.Memory.{WellFormedState, memory};
 ghost use Rattle.rules.specs.declared.Command.the-variants.{Phase};
-ghost use Rattle.engine.specs.Outcome.{OutcomeIs, isMatch};
-ghost use Rattle.opening.specs.Opening.{withMatch};
+ghost use Rattle.engine.specs.Decision.{CarriedOut, listedIn};
+ghost use Rattle.engine.specs.Outcome.{isMatch};
+ghost use Rattle.opening.specs.Opening.{matchedAs, refusedAt};
 use auction::matched;
 use auction::matched::Match;
 use auction::price;
-use engine::answers;
-use engine::answers::Outcome;
+use engine::updates;
+use engine::updates::Carried;
+use engine::updates::Listed;
+use rules::Answer;
 use rules::CONTINUOUS;
 use rules::State;
 
-// The state after the match: the contract trades on.
-fn with_match(state: State, c: usize, m: Match) -> State
+// The contract after the match: it trades on.
+fn with_match(state: State, c: usize, m: Match) -> Listed
     requires { ⌜ c < maxContracts ⌝ }
-    ensures { λ r. ⌜ r ≡ withMatch state c m ⌝ }
+    ensures { λ r. ⌜ r ≡ matchedAs (listedIn state c) m ⌝ }
 {
-    let mut contracts = state.contracts;
-    let mut buycounts = state.buycounts;
-    let mut sellcounts = state.sellcounts;
-    let accounts = m.accounts;
-    let mut terms = contracts[c];
+    let mut listed = updates::listed_at(state, c);
+    let mut terms = listed.terms;
     terms.last = m.last;
     terms.phase = CONTINUOUS;
-    contracts[c] = terms;
-    buycounts[c] = m.bought;
-    sellcounts[c] = m.sold;
-    State {
-        contracts,
+    listed.terms = terms;
+    listed.bought = m.bought;
+    listed.sold = m.sold;
+    listed.recorded = m.made;
+    listed
+}
+
+// Nothing has happened: the contract is as it stands.
+fn refused(state: State, c: usize, code: u32) -> Carried
+    requires { ⌜ c < maxContracts ⌝ }
+    ensures { λ r. ⌜ r ≡ refusedAt state c code ⌝ }
+{
+    let accounts = state.accounts;
+    Carried {
         accounts,
-        buycounts,
-        sellcounts,
-        contractcount: state.contractcount,
-        accountcount: state.accountcount,
-        tradecount: m.made,
-        next: state.next,
-        nextstamp: state.nextstamp,
-        settlements: state.settlements,
+        listed: updates::listed_at(state, c),
+        answer: Answer {
+            code,
+            number: 0,
+            traded: 0,
+            lots: 0,
+        },
     }
 }
 
@@ -52,9 +60,9 @@ pub fn leave_auction(
     sells: &mut [u32],
     trades: &mut [u32],
     contract: u32,
-) -> Outcome
+) -> Carried
     requires { ⌜ WellFormedState state (now buys) (now sells) (now trades) × (isMatch state contract continuous ≡ true) ⌝ }
-    ensures { λ r. ⌜ OutcomeIs (stepIn (memory state (now (buys .entry)) (now (sells .entry)) (now (trades .entry))) (Phase contract continuous)) r (now (buys .exit)) (now (sells .exit)) (now (trades .exit)) ⌝ }
+    ensures { λ r. ⌜ CarriedOut (memory state (now (buys .entry)) (now (sells .entry)) (now (trades .entry))) (Phase contract continuous) r (now (buys .exit)) (now (sells .exit)) (now (trades .exit)) ⌝ }
 {
     let c = laws::place_of(contract);
     let buycounts = state.buycounts;
@@ -66,7 +74,7 @@ pub fn leave_auction(
     let chosen = price::chosen(&buys[..], bought, &sells[..], sold, c, terms.last);
     let needed = matched::trades_needed(&buys[..], bought, &sells[..], sold, c, chosen);
     if rules::MAX_TRADES < state.tradecount + needed {
-        return answers::refused(state, 12);
+        return refused(state, c, 12);
     }
     let accounts = state.accounts;
     let m = matched::match_queues(
@@ -81,5 +89,15 @@ pub fn leave_auction(
         terms.last,
         accounts,
     );
-    answers::accepted(with_match(state, c, m), 0, m.traded, 0)
+    let held = m.accounts;
+    Carried {
+        accounts: held,
+        listed: with_match(state, c, m),
+        answer: Answer {
+            code: 0,
+            number: 0,
+            traded: m.traded,
+            lots: 0,
+        },
+    }
 }

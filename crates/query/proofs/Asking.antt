@@ -22,7 +22,8 @@ use Rattle.rules.proofs.Fillable.{swept-fillable}
 use Rattle.engine.specs.Outcome.{AbsentIs}
 use Rattle.engine.proofs.Formed.{Formed, formed, no-account, no-contract}
 use Rattle.engine.proofs.Named.{one-absent}
-use Rattle.refusals.specs.Insertion.{Facing, Present, QueueRoom, sideArea, sideCount}
+use Rattle.engine.specs.Sides.{sideArea, sideCount}
+use Rattle.refusals.specs.Insertion.{Facing, Present, QueueRoom}
 use Rattle.refusals.proofs.Inserting.{present}
 use Rattle.refusals.proofs.Sides.{contract-is, opposite-facing, opposite-is}
 use Rattle.query.specs.Gettable.{GatheredIs, askRefusals, gettableNow, lotsNow, orderReading, questionRefusals, readNow, readingWith, refusedReading}

@@ -21,7 +21,7 @@ use Rattle.invariants.proofs.Marks.{Marks}
 use Rattle.engine.specs.Outcome.{OutcomeIs, refusedWith}
 use Rattle.engine.specs.declared.answers.Outcome.{Outcome}
 use Rattle.engine.proofs.Formed.{Formed, accounts-count, contracts-count, formed}
-use Rattle.insertion.specs.Arrival.{Enterable, enteredIn}
+use Rattle.insertion.specs.Entry.{Enterable, enteredIn}
 use Rattle.insertion.proofs.Entering.{may-enter}
 use Rattle.quoting.specs.Placing.{Quotable, markedIn}
 

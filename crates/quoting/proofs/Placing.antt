@@ -50,7 +50,7 @@ use Rattle.engine.proofs.Traded.{few-after, put-traded}
 use Rattle.refusals.proofs.Arrivals.{count-within}
 use Rattle.refusals.proofs.Continuous as first
 use Rattle.engine.proofs.Named.{account-there}
-use Rattle.insertion.specs.Arrival.{enteredIn}
+use Rattle.insertion.specs.Entry.{enteredIn}
 use Rattle.quoting.specs.Placing.{Quotable, PlacedIs, Undoable, earlyRefusals, goneIn, madeFrom, markedIn}
 use Rattle.quoting.proofs.Marking.{entered-so, nothing-moved, told}
 use Rattle.quoting.proofs.Undo.{made-room, undo-both, undo-nothing, undo-queue, undo-trades}

@@ -21,7 +21,7 @@ use Rattle.rules.specs.declared.State.{State}
 use Rattle.engine.specs.Outcome.{OutcomeIs}
 use Rattle.engine.specs.declared.answers.Outcome.{Outcome}
 use Rattle.refusals.specs.Insertion.{Present}
-use Rattle.insertion.specs.Arrival.{enteredIn}
+use Rattle.insertion.specs.Entry.{enteredIn}
 
 -- 2, 3, 4, 23, 24: what a quote is refused for before its orders are looked at
 abbrev pub earlyRefusals : Exchange → ℕ → ℕ → ℕ → ℕ → List Refusal

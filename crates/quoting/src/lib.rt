@@ -84,11 +84,10 @@ fn enter_marked(
         return answers::refused(state, code);
     }
     let number = state.next;
-    let arrival = insertion::arrival_of(state, o, number, 1);
+    let arrival = insertion::arrival_of(state, &buys[..], &sells[..], o, number, 1, number + 1);
     let accounts = state.accounts;
     let e = insertion::enter(accounts, arrival, buys, sells, trades);
-    let after = insertion::with_entry(state, arrival, e, number + 1);
-    answers::accepted(after, number, e.traded, e.rested)
+    answers::carried(state, e)
 }
 
 // "removed first; then the buy is inserted, then the sell, on the state each step leaves". Where one of them is refused the areas are

@@ -28,7 +28,8 @@ use Rattle.engine.proofs.Formed.{Formed, formed, holding-at}
 use Rattle.engine.proofs.Named.{allowed, forbidden, no-such-account, no-such-contract}
 use Rattle.engine.proofs.Puts.{trades-count}
 use Rattle.engine.proofs.Tests.{place-below}
-use Rattle.refusals.specs.Insertion.{Facing, MeetsQueue, Present, QueueRoom, sideArea, sideCount}
+use Rattle.engine.specs.Sides.{sideArea, sideCount}
+use Rattle.refusals.specs.Insertion.{Facing, MeetsQueue, Present, QueueRoom}
 use Rattle.refusals.proofs.Sides.{contract-is, contract-terms, opposite-facing, opposite-is, resting-low, side-is, side-room}
 
 -- 10 to 13, in any exchange in which the order meets the queue so

@@ -19,7 +19,8 @@ use Rattle.rules.proofs.Codecs.{length-queue}
 use Rattle.rules.proofs.Terms.{terms, terms-passed}
 use Rattle.holdings.specs.Bounds.{HoldingWithin, heldMost}
 use Rattle.invariants.proofs.Clauses.{HoldingOk, ListingOk, order-ok}
-use Rattle.refusals.specs.Insertion.{Facing, QueueRoom, sideArea, sideCount}
+use Rattle.engine.specs.Sides.{sideArea, sideCount}
+use Rattle.refusals.specs.Insertion.{Facing, QueueRoom}
 use Rattle.engine.proofs.Formed.{Formed, accounts-count, contracts-count, holding-at, listing-at}
 
 module _ (m : Memory) (f : Formed m) (c : ℕ) (h : c < m .state .contractcount) where

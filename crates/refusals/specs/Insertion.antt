@@ -1,11 +1,9 @@
--- An arriving order as the code reads it: the side of a contract as it lies, the queue that it meets, its account and contract in use.
--- Assumes nothing.
-use mathlib.Core.Bool.{Bool, true, false, not}
+-- An arriving order as the code reads it: the queue that it meets, its account and contract in use. Assumes nothing.
+use mathlib.Core.Bool.{true, false, not}
 use mathlib.Core.List.{List}
 use mathlib.Core.Path.{_≡_}
 use Prim.Native.Nat.{ℕ, _<_, _≤_}
 use lib.ListN.{length, getD}
-use Rattle.laws.specs.Choice.{pick}
 use Rattle.rules.specs.Answers.{listingOf, namedRefusals, notContinuous, oppositeQueue, ownQueue, takerOf}
 use Rattle.rules.specs.Bounds.{maxResting}
 use Rattle.rules.specs.Exchange.{Exchange, bestPrice, isAbsent, noAccount, placeOf}
@@ -18,14 +16,6 @@ use Rattle.rules.specs.declared.Order.{Order}
 use Rattle.rules.specs.declared.State.{State}
 use Rattle.rules.specs.declared.Taker.{Taker}
 use Rattle.engine.specs.Outcome.{CodeIn}
-
--- ---- one side of a contract, as it lies
-
-abbrev pub sideArea : Bool → List ℕ → List ℕ → List ℕ
-sideArea sell buys sells = pick sell sells buys
-
-abbrev pub sideCount : Bool → State → ℕ → ℕ
-sideCount sell s c = getD (pick sell (s .sellcounts) (s .buycounts)) c 0
 
 -- a queue of at most 64 orders, with room in its area
 pub record QueueRoom (area : List ℕ) (c count : ℕ) : Type 0 where

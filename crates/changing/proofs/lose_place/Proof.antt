@@ -7,7 +7,7 @@ use Rattle.rules.specs.Answers.{namedRefusals, notContinuous}
 use Rattle.rules.specs.Memory.{exchangeOf, memory}
 use Rattle.rules.proofs.Refusals.{Failed, failed}
 use Rattle.refusals.proofs.Continuous.{account-fits, account-low, contract-fits, contract-low}
-use Rattle.insertion.proofs.Entering.{arrives, leaves-room, order-entered, ready}
+use Rattle.insertion.proofs.Entering.{carried-told, entered-place, known, order-entered, ready}
 use Rattle.changing.proofs.Changing.{buys-back, can-put-back, can-take-out, gone-formed, gone-lots, gone-owner, gone-present, lost-changed, lost-enterable, lost-refused, sells-back, taken-out}
 use borrow.Author.Needs.{needs}
 use Rattle.changing.proofs.lose_place.Statement.{statement}
@@ -88,46 +88,96 @@ returns c =
     let taken = taken-out (start .pre .0) _ _ _ _ _ (start .pre .1) (after .before .before .before .before .before .before .place-of .ensures) (after .take-out .ensures .0) (after .take-out .ensures .1 .0) (after .take-out .ensures .1 .1) in
     lost-refused (start .pre .0) _ _ _ _ _ (start .pre .1) (start .pre .2) (start .pre .3) taken (after .before .before .before .arriving .ensures) (c .before .before .before .before .before .before .before .before .before .before .reentry-code .ensures) (c .before .before .before .before .before .before .before .before .before .if1 .taken) (after .before .before .before .before .before .before .place-of .ensures) (c .before .before .before .before .before .before .before .before .side-count .ensures) (buys-back (start .pre .0) _ _ _ _ _ (start .pre .1) (start .pre .2) (start .pre .3) taken (after .before .before .before .arriving .ensures) (c .before .before .before .before .before .before .before .before .before .before .reentry-code .ensures) (c .before .before .before .before .before .before .before .before .before .if1 .taken) (after .before .before .before .before .before .before .place-of .ensures) (c .before .before .before .before .before .before .before .before .side-count .ensures) (c .before .before .before .before .before .put-back .ensures .0)) (sells-back (start .pre .0) _ _ _ _ _ (start .pre .1) (start .pre .2) (start .pre .3) taken (after .before .before .before .arriving .ensures) (c .before .before .before .before .before .before .before .before .before .before .reentry-code .ensures) (c .before .before .before .before .before .before .before .before .before .if1 .taken) (after .before .before .before .before .before .before .place-of .ensures) (c .before .before .before .before .before .before .before .before .side-count .ensures) (c .before .before .before .before .before .put-back .ensures .1)) (c .refused .ensures)
 
+-- from the last test to the order taken out, and from there to the start
+abbrev out : tie.Else1 → tie.After-take-out
+out c =
+    let lent = c .before .before .before .before in
+    let given = lent .before .before .before .before in
+    given .before
+
+abbrev start : tie.After-take-out → tie.Start
+start c =
+    let order = c .before .before .before in
+    let read = order .before .before .before .before in
+    read .before .before .before
+
+-- from the order about to enter to the last test
+abbrev passed : tie.After-arrival-of → tie.Else1
+passed c = c .before .before .before
+
 arrival-of-requires : tie.Need-arrival-of-requires
 arrival-of-requires c κs =
-    let after = c .before .before .before .before .before .before .before .before .before in
-    let start = after .before .before .before .before .before .before .before .before .before .before in
-    let taken = taken-out (start .pre .0) _ _ _ _ _ (start .pre .1) (after .before .before .before .before .before .before .place-of .ensures) (after .take-out .ensures .0) (after .take-out .ensures .1 .0) (after .take-out .ensures .1 .1) in
-    arrives (gone-formed (start .pre .0) _ _ _ _ _ (start .pre .1) (start .pre .2) (start .pre .3) taken) _ _ _ _ (lost-enterable (start .pre .0) _ _ _ _ _ (start .pre .1) (start .pre .2) (start .pre .3) taken (after .before .before .before .arriving .ensures) (c .before .reentry-code .ensures) (c .if1 .left))
+    let test = c .before .before in
+    let gone = out test in
+    let here = start gone in
+    let order = gone .before .before .before in
+    let taken = taken-out (here .pre .0) _ _ _ _ _ (here .pre .1) (order .before .before .before .place-of .ensures) (gone .take-out .ensures .0) (gone .take-out .ensures .1 .0) (gone .take-out .ensures .1 .1) in
+    let formed = gone-formed (here .pre .0) _ _ _ _ _ (here .pre .1) (here .pre .2) (here .pre .3) taken in
+    let may = lost-enterable (here .pre .0) _ _ _ _ _ (here .pre .1) (here .pre .2) (here .pre .3) taken (order .arriving .ensures) (test .before .reentry-code .ensures) (test .if1 .left) in
+    known formed _ _ _ _ may
 
 enter-requires : tie.Need-enter-requires
 enter-requires c κs =
-    let after = c .before .before .before .before .before .before .before .before .before .before .before .before .before .before in
-    let start = after .before .before .before .before .before .before .before .before .before .before in
-    let taken = taken-out (start .pre .0) _ _ _ _ _ (start .pre .1) (after .before .before .before .before .before .before .place-of .ensures) (after .take-out .ensures .0) (after .take-out .ensures .1 .0) (after .take-out .ensures .1 .1) in
-    ready (gone-formed (start .pre .0) _ _ _ _ _ (start .pre .1) (start .pre .2) (start .pre .3) taken) _ _ _ _ (lost-enterable (start .pre .0) _ _ _ _ _ (start .pre .1) (start .pre .2) (start .pre .3) taken (after .before .before .before .arriving .ensures) (c .before .before .before .before .before .before .reentry-code .ensures) (c .before .before .before .before .before .if1 .left)) (c .before .before .before .before .arrival-of .ensures)
+    let arrival = c .before .before .before .before in
+    let test = passed arrival in
+    let gone = out test in
+    let here = start gone in
+    let order = gone .before .before .before in
+    let taken = taken-out (here .pre .0) _ _ _ _ _ (here .pre .1) (order .before .before .before .place-of .ensures) (gone .take-out .ensures .0) (gone .take-out .ensures .1 .0) (gone .take-out .ensures .1 .1) in
+    let formed = gone-formed (here .pre .0) _ _ _ _ _ (here .pre .1) (here .pre .2) (here .pre .3) taken in
+    let may = lost-enterable (here .pre .0) _ _ _ _ _ (here .pre .1) (here .pre .2) (here .pre .3) taken (order .arriving .ensures) (test .before .reentry-code .ensures) (test .if1 .left) in
+    ready formed _ _ _ _ may (arrival .arrival-of .ensures)
 
-with-entry-requires : tie.Need-with-entry-requires
-with-entry-requires c κs =
-    let after = c .before .before .before .before .before .before .before .before .before .before .before .before .before .before .before .before .before .before .before .before .before in
-    let start = after .before .before .before .before .before .before .before .before .before .before in
-    let taken = taken-out (start .pre .0) _ _ _ _ _ (start .pre .1) (after .before .before .before .before .before .before .place-of .ensures) (after .take-out .ensures .0) (after .take-out .ensures .1 .0) (after .take-out .ensures .1 .1) in
-    leaves-room (gone-formed (start .pre .0) _ _ _ _ _ (start .pre .1) (start .pre .2) (start .pre .3) taken) _ _ _ _ (lost-enterable (start .pre .0) _ _ _ _ _ (start .pre .1) (start .pre .2) (start .pre .3) taken (after .before .before .before .arriving .ensures) (c .before .before .before .before .before .before .before .before .before .before .before .before .before .reentry-code .ensures) (c .before .before .before .before .before .before .before .before .before .before .before .before .if1 .left)) (c .before .before .before .before .before .before .before .before .before .before .before .arrival-of .ensures)
+-- from the areas that are given back to the entry, and to the order about to enter
+abbrev entered : tie.After-slice-known10 → tie.After-enter
+entered c =
+    let sold = c .before .before .before .before in
+    sold .before .before
 
-accepted-requires : tie.Need-accepted-requires
-accepted-requires c κs = search needs
+abbrev arrived : tie.After-enter → tie.After-arrival-of
+arrived c =
+    let held = c .before .before .before .before in
+    held .before
+
+carried-requires : tie.Need-carried-requires
+carried-requires c κs =
+    let done = entered c in
+    let arrival = arrived done in
+    let test = passed arrival in
+    let gone = out test in
+    let here = start gone in
+    let order = gone .before .before .before in
+    let taken = taken-out (here .pre .0) _ _ _ _ _ (here .pre .1) (order .before .before .before .place-of .ensures) (gone .take-out .ensures .0) (gone .take-out .ensures .1 .0) (gone .take-out .ensures .1 .1) in
+    let formed = gone-formed (here .pre .0) _ _ _ _ _ (here .pre .1) (here .pre .2) (here .pre .3) taken in
+    let may = lost-enterable (here .pre .0) _ _ _ _ _ (here .pre .1) (here .pre .2) (here .pre .3) taken (order .arriving .ensures) (test .before .reentry-code .ensures) (test .if1 .left) in
+    entered-place formed _ _ _ _ may (arrival .arrival-of .ensures) _ _ (done .enter .ensures)
 
 same-length-4 : tie.Need-same-length-4
-same-length-4 c = c .before .before .before .before .before .before .before .before .enter .kept .1 .1 .0 ∙ c .before .before .before .before .before .before .before .before .before .before .before .before .before .before .before .before .before .before .before .before .before .before .before .take-out .kept .1 .0
+same-length-4 c =
+    let done = entered (c .before) in
+    done .enter .kept .1 .1 .0 ∙ out (passed (arrived done)) .take-out .kept .1 .0
 
 same-length-5 : tie.Need-same-length-5
-same-length-5 c = c .before .before .before .before .before .before .before .before .enter .kept .1 .1 .1 .0 ∙ c .before .before .before .before .before .before .before .before .before .before .before .before .before .before .before .before .before .before .before .before .before .before .before .take-out .kept .1 .1 .0
+same-length-5 c =
+    let done = entered (c .before) in
+    done .enter .kept .1 .1 .1 .0 ∙ out (passed (arrived done)) .take-out .kept .1 .1 .0
 
 same-length-6 : tie.Need-same-length-6
 same-length-6 c = search needs
 
 returns-2 : tie.Need-returns-2
 returns-2 c =
-    let after = c .before .before .before .before .before .before .before .before .before .before .before .before .before in
-    let start = after .before .before .before .before .before .before .before .before .before .before .before .before .before .before .before .before .before .before .before .before in
-    let taken = taken-out (start .pre .0) _ _ _ _ _ (start .pre .1) (after .before .before .before .before .before .before .before .before .before .before .before .before .before .before .before .before .place-of .ensures) (after .before .before .before .before .before .before .before .before .before .before .take-out .ensures .0) (after .before .before .before .before .before .before .before .before .before .before .take-out .ensures .1 .0) (after .before .before .before .before .before .before .before .before .before .before .take-out .ensures .1 .1) in
-    lost-changed (start .pre .0) _ _ _ _ _ (start .pre .1) (start .pre .2) (start .pre .3) taken (after .before .before .before .before .before .before .before .before .before .before .before .before .before .arriving .ensures) (after .before .before .reentry-code .ensures) (after .before .if1 .left)
-    (order-entered (gone-formed (start .pre .0) _ _ _ _ _ (start .pre .1) (start .pre .2) (start .pre .3) taken) _ _ _ _ (lost-enterable (start .pre .0) _ _ _ _ _ (start .pre .1) (start .pre .2) (start .pre .3) taken (after .before .before .before .before .before .before .before .before .before .before .before .before .before .arriving .ensures) (after .before .before .reentry-code .ensures) (after .before .if1 .left)) (after .arrival-of .ensures) _ _ (c .before .before .before .before .before .before .before .before .enter .ensures) (c .before .with-entry .ensures) (c .accepted .ensures))
+    let done = entered (c .before) in
+    let arrival = arrived done in
+    let test = passed arrival in
+    let gone = out test in
+    let here = start gone in
+    let order = gone .before .before .before in
+    let taken = taken-out (here .pre .0) _ _ _ _ _ (here .pre .1) (order .before .before .before .place-of .ensures) (gone .take-out .ensures .0) (gone .take-out .ensures .1 .0) (gone .take-out .ensures .1 .1) in
+    let formed = gone-formed (here .pre .0) _ _ _ _ _ (here .pre .1) (here .pre .2) (here .pre .3) taken in
+    let may = lost-enterable (here .pre .0) _ _ _ _ _ (here .pre .1) (here .pre .2) (here .pre .3) taken (order .arriving .ensures) (test .before .reentry-code .ensures) (test .if1 .left) in
+    lost-changed (here .pre .0) _ _ _ _ _ (here .pre .1) (here .pre .2) (here .pre .3) taken (order .arriving .ensures) (test .before .reentry-code .ensures) (test .if1 .left)
+    (carried-told (c .carried .ensures) (order-entered formed _ _ _ _ may (arrival .arrival-of .ensures) _ _ (done .enter .ensures)))
 
 pub lose-place-spec : {M : Type 1} → statement M
 lose-place-spec =
@@ -149,8 +199,7 @@ lose-place-spec =
     returns
     arrival-of-requires
     enter-requires
-    with-entry-requires
-    accepted-requires
+    carried-requires
     same-length-4
     same-length-5
     same-length-6

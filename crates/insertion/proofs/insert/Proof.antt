@@ -1,121 +1,82 @@
--- `insertion::insert` meets its contract: a refusal leaves all as it was, and an accepted order enters with the next number. Assumes
--- nothing.
-use mathlib.Core.Path.{sym, _∙_}
+-- `insertion::insert` meets its contract: a refusal leaves all as it was, and an accepted order arrives with the next number. Assumes nothing.
+use mathlib.Core.Path.{_≡_, refl, sym, _∙_}
 use native.Mathlib.Omega.{arith}
+use denote.Ref.{now}
+use Rattle.rules.specs.Kinds.{codeOf}
+use Rattle.rules.specs.Memory.{exchangeOf, memory}
+use Rattle.rules.specs.declared.Command.the-variants.{Insert}
+use Rattle.engine.specs.Arrival.{Ready}
+use Rattle.engine.proofs.Decisions.{held-here, refusal-decided}
 use Rattle.engine.proofs.Outcomes.{refusal}
-use Rattle.insertion.proofs.Entering.{arrives, enterable, insert-entered, leaves-room, next-low, order-entered, ready}
-use Rattle.refusals.proofs.Inserting.{code-account, holder-fits, holder-low}
+use Rattle.refusals.proofs.Inserting.{code-account}
+use Rattle.insertion.proofs.Arriving.{arrived-decided}
+use Rattle.insertion.proofs.Entering.{enterable, insert-entered, known, next-low, order-entered, ready}
 use borrow.Author.Needs.{needs}
 use Rattle.insertion.proofs.insert.Statement.{statement}
 use Rattle.insertion.proofs.insert.Tie as tie
 
-is-absent-requires : tie.Need-is-absent-requires
-is-absent-requires c κs = search needs
+abbrev begun : tie.After-is-absent → tie.Start
+begun c = c .before .before .before .before
 
-refused-requires : tie.Need-refused-requires
-refused-requires c κs = search needs
+abbrev start : tie.After-code-of → tie.Start
+start c =
+    let tested = c .before .before .before in
+    begun (tested .before)
+
+accepted : (c : tie.Else2) → let here = start (c .before) in
+    codeOf (exchangeOf (memory (here .args .state) (now (here .args .buys)) (now (here .args .sells)) (now (here .args .trades)))) (Insert (here .args .o)) ≡ 0
+accepted c = sym (c .before .code-of .ensures) ∙ c .if2 .left
+
+-- from the order about to enter to the last test
+abbrev passed : tie.After-arrival-of → tie.Else2
+passed c = c .before .before .before
+
+may-enter : (c : tie.After-arrival-of) → let here = start (passed c .before) in
+    Ready (here .args .state .accounts) (c .arrival-of .result) (now (here .args .buys)) (now (here .args .sells)) (now (here .args .trades))
+may-enter c =
+    let here = start (passed c .before) in
+    ready (here .pre .0) (here .args .o) _ _ _ (enterable (here .pre .0) (here .args .o) (accepted (passed c))) (c .arrival-of .ensures)
 
 returns : tie.Need-returns
 returns c =
-    let start = c .before .before .before .before .before .before in
-    refusal _ _ _ _ _ _ (omega arith) (sym (code-account (start .pre) (start .args .o) (sym (c .before .before .is-absent .ensures) ∙ c .before .if1 .taken))) (c .refused .ensures)
-
-place-of-requires : tie.Need-place-of-requires
-place-of-requires c κs =
-    let start = c .before .before .before .before .before in
-    holder-low (start .pre) (start .args .o) (sym (c .before .is-absent .ensures) ∙ c .if1 .left)
-
-mul-who : tie.Need-mul-who
-mul-who c = search needs
-
-element-copy-out-who : tie.Need-element-copy-out-who
-element-copy-out-who c =
-    let start = c .before .before .before .before .before .before in
-    holder-fits (start .pre) (start .args .o) (sym (c .before .before .is-absent .ensures) ∙ c .before .if1 .left) (c .place-of .ensures)
+    let here = begun (c .before .before) in
+    refusal-decided (refusal _ _ _ _ _ _ (omega arith) (sym (code-account (here .pre .0) (here .args .o) (sym (c .before .before .is-absent .ensures) ∙ c .before .if1 .taken))) refl) (c .refused .ensures)
 
 code-of-requires : tie.Need-code-of-requires
 code-of-requires c κs =
-    let start = c .before .before .before .before .before .before .before .before .before .before in
-    (start .pre, record { in-use = (sym (c .before .before .before .before .before .before .is-absent .ensures) ∙ c .before .before .before .before .before .if1 .left); owner = rw (c .before .before .before .before .place-of .ensures) })
-
-refused-requires-2 : tie.Need-refused-requires-2
-refused-requires-2 c κs = search needs
-
-same-length : tie.Need-same-length
-same-length c = search needs
-
-same-length-2 : tie.Need-same-length-2
-same-length-2 c = search needs
-
-same-length-3 : tie.Need-same-length-3
-same-length-3 c = search needs
+    let tested = c .before .before in
+    let here = begun (tested .before) in
+    let there = sym (tested .before .is-absent .ensures) ∙ tested .if1 .left in
+    (here .pre .0, record { in-use = there; owner = held-here (here .args .state) (here .args .o .account) there (here .pre .1) })
 
 returns-2 : tie.Need-returns-2
-returns-2 c =
-    refusal _ _ _ _ _ _ (omega (arith, c .before .if2 .taken)) (sym (c .before .before .code-of .ensures)) (c .refused2 .ensures)
-
-arrival-of-requires : tie.Need-arrival-of-requires
-arrival-of-requires c κs =
-    let start = c .before .before .before .before .before .before .before .before .before .before .before .before in
-    arrives (start .pre) (start .args .o) _ _ _ (enterable (start .pre) (start .args .o) (sym (c .before .code-of .ensures) ∙ c .if2 .left))
-
-enter-requires : tie.Need-enter-requires
-enter-requires c κs =
-    let start = c .before .before .before .before .before .before .before .before .before .before .before .before .before .before .before .before .before in
-    ready (start .pre) (start .args .o) _ _ _ (enterable (start .pre) (start .args .o) (sym (c .before .before .before .before .before .before .code-of .ensures) ∙ c .before .before .before .before .before .if2 .left)) (c .before .before .before .before .arrival-of .ensures)
-
-add-with-entry : tie.Need-add-with-entry
-add-with-entry c =
-    let start = c .before .before .before .before .before .before .before .before .before .before .before .before .before .before .before .before .before .before .before .before .before .before .before .before in
-    omega (arith, next-low (start .pre) (start .args .o) (sym (c .before .before .before .before .before .before .before .before .before .before .before .before .before .code-of .ensures) ∙ c .before .before .before .before .before .before .before .before .before .before .before .before .if2 .left))
-
-with-entry-requires : tie.Need-with-entry-requires
-with-entry-requires c κs =
-    let after = c .before .before .before .before .before .before .before .before .before .before .before in
-    let start = after .before .before .before .before .before .before .before .before .before .before .before .before .before in
-    leaves-room (start .pre) (start .args .o) _ _ _ (enterable (start .pre) (start .args .o) (sym (after .before .before .code-of .ensures) ∙ after .before .if2 .left)) (after .arrival-of .ensures)
-
-accepted-requires : tie.Need-accepted-requires
-accepted-requires c κs = search needs
-
-same-length-4 : tie.Need-same-length-4
-same-length-4 c = search needs
-
-same-length-5 : tie.Need-same-length-5
-same-length-5 c = search needs
-
-same-length-6 : tie.Need-same-length-6
-same-length-6 c = search needs
+returns-2 c = refusal-decided (refusal _ _ _ _ _ _ (omega (arith, c .before .if2 .taken)) (sym (c .before .before .code-of .ensures)) refl) (c .refused2 .ensures)
 
 returns-3 : tie.Need-returns-3
 returns-3 c =
-    let after = c .before .before .before .before .before .before .before .before .before .before .before .before .before in
-    let start = after .before .before .before .before .before .before .before .before .before .before .before .before .before in
-    insert-entered (start .pre) (start .args .o) (sym (after .before .before .code-of .ensures) ∙ after .before .if2 .left)
-    (order-entered (start .pre) (start .args .o) _ _ _ (enterable (start .pre) (start .args .o) (sym (after .before .before .code-of .ensures) ∙ after .before .if2 .left)) (after .arrival-of .ensures) _ _ (c .before .before .before .before .before .before .before .before .enter .ensures) (c .before .with-entry .ensures) (c .accepted .ensures))
+    let called = c .before .before .before .before in
+    let arrival = called .before .before .before in
+    let here = start (passed arrival .before) in
+    let may = enterable (here .pre .0) (here .args .o) (accepted (passed arrival)) in
+    arrived-decided (may-enter arrival)
+    (λ r buys′ sells′ trades′ k. insert-entered (here .pre .0) (here .args .o) (accepted (passed arrival)) (order-entered (here .pre .0) (here .args .o) _ _ _ may (arrival .arrival-of .ensures) buys′ sells′ k))
+    (called .arrive .ensures)
 
 pub insert-spec : {M : Type 1} → statement M
 insert-spec =
     tie.close
     (tie.spec
-    is-absent-requires
-    refused-requires
+    (λ c κs. search needs)
+    (λ c κs. search needs)
     returns
-    place-of-requires
-    mul-who
-    element-copy-out-who
     code-of-requires
-    refused-requires-2
-    same-length
-    same-length-2
-    same-length-3
+    (λ c κs. search needs)
+    (λ c. search needs)
+    (λ c. search needs)
     returns-2
-    arrival-of-requires
-    enter-requires
-    add-with-entry
-    with-entry-requires
-    accepted-requires
-    same-length-4
-    same-length-5
-    same-length-6
+    (λ c. let here = start (c .before .before .before) in omega (arith, next-low (here .pre .0) (here .args .o) (accepted (c .before .before))))  -- add-arrival-of
+    (λ c κs. let here = start (c .before .before .before) in known (here .pre .0) (here .args .o) _ _ _ (enterable (here .pre .0) (here .args .o) (accepted (c .before .before))))  -- arrival-of-requires
+    (λ c κs. may-enter (c .before .before) .arrives)  -- arrive-requires
+    (λ c. search needs)
+    (λ c. search needs)
     returns-3)

@@ -38,7 +38,12 @@ add-if1 c =
     omega (arith, needed-few (start .pre .0) _ (start .pre .1) (c .before .before .before .before .before .before .before .before .before .before .before .place-of .ensures) (c .before .before .before .before .chosen .ensures) (c .before .trades-needed .ensures))
 
 refused-requires : tie.Need-refused-requires
-refused-requires c κs = search needs
+refused-requires c κs =
+    let room = c .before .before in
+    let level = room .before .before .before in
+    let place = level .before .before .before .before .before .before .before in
+    let start = place .before .before .before .before in
+    place-fits (start .pre .0) _ (start .pre .1) (place .place-of .ensures)
 
 same-length : tie.Need-same-length
 same-length c = search needs
@@ -64,12 +69,9 @@ match-queues-requires c κs =
 
 with-match-requires : tie.Need-with-match-requires
 with-match-requires c κs =
-    let place = c .before .before .before .before .before .before .before .before .before .before .before .before .before .before .before .before .before .before .before .before .before .before .before .before in
+    let place = c .before .before .before .before .before .before .before .before .before .before .before .before .before .before .before .before .before .before .before .before .before .before .before .before .before in
     let start = place .before .before .before .before in
     place-fits (start .pre .0) _ (start .pre .1) (place .place-of .ensures)
-
-accepted-requires : tie.Need-accepted-requires
-accepted-requires c κs = search needs
 
 same-length-3 : tie.Need-same-length-3
 same-length-3 c = search needs
@@ -88,7 +90,7 @@ returns-2 c =
     let place = level .before .before .before .before .before .before .before in
     let start = place .before .before .before .before in
     left-accepted (start .pre .0) _ (start .pre .1) (place .place-of .ensures) (level .chosen .ensures) (needed .trades-needed .ensures) (room .if1 .left)
-    (c .before .before .before .before .before .before .before .before .before .place-word .ensures) (c .before .before .before .before .before .before .before .before .match-queues .ensures) (c .before .with-match .ensures) (c .accepted .ensures)
+    (c .before .before .before .before .before .before .before .before .before .place-word .ensures) (c .before .before .before .before .before .before .before .before .match-queues .ensures) (c .with-match .ensures)
 
 pub leave-auction-spec : {M : Type 1} → statement M
 leave-auction-spec =
@@ -111,7 +113,6 @@ leave-auction-spec =
     place-word-requires
     match-queues-requires
     with-match-requires
-    accepted-requires
     same-length-3
     same-length-4
     same-length-5

@@ -1,6 +1,6 @@
 -- `quoting::enter_marked` meets its contract: refused with its code, or entered marked. Assumes nothing.
 use native.Mathlib.Omega.{arith}
-use Rattle.insertion.proofs.Entering.{arrives, leaves-room, order-entered, ready}
+use Rattle.insertion.proofs.Entering.{carried-told, entered-place, known, order-entered, ready}
 use Rattle.quoting.proofs.Marking.{marked-enterable, marked-entered, marked-fits, marked-low, marked-refused, numbers-low}
 use borrow.Author.Needs.{needs}
 use Rattle.quoting.proofs.enter_marked.Statement.{statement}
@@ -41,29 +41,57 @@ returns c =
     let start = c .before .before .before .before .before .before .before .before .before .before .before in
     marked-refused (start .pre .0) (start .args .o) (start .pre .1) (c .before .before .order-code .ensures) (c .before .if1 .taken) (c .refused .ensures)
 
+-- from the code to the start
+abbrev start : tie.After-order-code → tie.Start
+start c =
+    let read = c .before .before .before .before in
+    let begun = read .before .before .before .before in
+    begun .before
+
+-- from the order about to enter to the test of its code
+abbrev passed : tie.After-arrival-of → tie.Else1
+passed c = c .before .before .before
+
+add-arrival-of : tie.Need-add-arrival-of
+add-arrival-of c =
+    let test = c .before .before in
+    let here = start (test .before) in
+    omega (arith, numbers-low (here .pre .0) (here .args .o) (here .pre .1) (test .before .order-code .ensures) (test .if1 .left))
+
 arrival-of-requires : tie.Need-arrival-of-requires
 arrival-of-requires c κs =
-    let start = c .before .before .before .before .before .before .before .before .before .before in
-    arrives (start .pre .0) (start .args .o) _ _ _ (marked-enterable (start .pre .0) (start .args .o) (start .pre .1) (c .before .order-code .ensures) (c .if1 .left))
+    let test = c .before .before in
+    let here = start (test .before) in
+    let may = marked-enterable (here .pre .0) (here .args .o) (here .pre .1) (test .before .order-code .ensures) (test .if1 .left) in
+    known (here .pre .0) (here .args .o) _ _ _ may
 
 enter-requires : tie.Need-enter-requires
 enter-requires c κs =
-    let start = c .before .before .before .before .before .before .before .before .before .before .before .before .before .before .before in
-    ready (start .pre .0) (start .args .o) _ _ _ (marked-enterable (start .pre .0) (start .args .o) (start .pre .1) (c .before .before .before .before .before .before .order-code .ensures) (c .before .before .before .before .before .if1 .left)) (c .before .before .before .before .arrival-of .ensures)
+    let arrival = c .before .before .before .before in
+    let test = passed arrival in
+    let here = start (test .before) in
+    let may = marked-enterable (here .pre .0) (here .args .o) (here .pre .1) (test .before .order-code .ensures) (test .if1 .left) in
+    ready (here .pre .0) (here .args .o) _ _ _ may (arrival .arrival-of .ensures)
 
-add-with-entry : tie.Need-add-with-entry
-add-with-entry c =
-    let start = c .before .before .before .before .before .before .before .before .before .before .before .before .before .before .before .before .before .before .before .before .before .before in
-    omega (arith, numbers-low (start .pre .0) (start .args .o) (start .pre .1) (c .before .before .before .before .before .before .before .before .before .before .before .before .before .order-code .ensures) (c .before .before .before .before .before .before .before .before .before .before .before .before .if1 .left))
+-- from the areas that are given back to the entry, and to the order about to enter
+abbrev entered : tie.After-slice-known6 → tie.After-enter
+entered c =
+    let sold = c .before .before .before .before in
+    sold .before .before
 
-with-entry-requires : tie.Need-with-entry-requires
-with-entry-requires c κs =
-    let after = c .before .before .before .before .before .before .before .before .before .before .before in
-    let start = after .before .before .before .before .before .before .before .before .before .before .before in
-    leaves-room (start .pre .0) (start .args .o) _ _ _ (marked-enterable (start .pre .0) (start .args .o) (start .pre .1) (after .before .before .order-code .ensures) (after .before .if1 .left)) (after .arrival-of .ensures)
+abbrev arrived : tie.After-enter → tie.After-arrival-of
+arrived c =
+    let held = c .before .before .before .before in
+    held .before
 
-accepted-requires : tie.Need-accepted-requires
-accepted-requires c κs = search needs
+carried-requires : tie.Need-carried-requires
+carried-requires c κs =
+    let done = entered c in
+    let arrival = arrived done in
+    let test = passed arrival in
+    let here = start (test .before) in
+    let may = marked-enterable (here .pre .0) (here .args .o) (here .pre .1) (test .before .order-code .ensures) (test .if1 .left) in
+    entered-place (here .pre .0) (here .args .o) _ _ _ may (arrival .arrival-of .ensures) _ _ (done .enter .ensures)
 
 same-length-4 : tie.Need-same-length-4
 same-length-4 c = search needs
@@ -76,10 +104,13 @@ same-length-6 c = search needs
 
 returns-2 : tie.Need-returns-2
 returns-2 c =
-    let after = c .before .before .before .before .before .before .before .before .before .before .before .before .before in
-    let start = after .before .before .before .before .before .before .before .before .before .before .before in
-    marked-entered (start .pre .0) (start .args .o) (start .pre .1) (after .before .before .order-code .ensures) (after .before .if1 .left)
-    (order-entered (start .pre .0) (start .args .o) _ _ _ (marked-enterable (start .pre .0) (start .args .o) (start .pre .1) (after .before .before .order-code .ensures) (after .before .if1 .left)) (after .arrival-of .ensures) _ _ (c .before .before .before .before .before .before .before .before .enter .ensures) (c .before .with-entry .ensures) (c .accepted .ensures))
+    let done = entered (c .before) in
+    let arrival = arrived done in
+    let test = passed arrival in
+    let here = start (test .before) in
+    let may = marked-enterable (here .pre .0) (here .args .o) (here .pre .1) (test .before .order-code .ensures) (test .if1 .left) in
+    marked-entered (here .pre .0) (here .args .o) (here .pre .1) (test .before .order-code .ensures) (test .if1 .left)
+    (carried-told (c .carried .ensures) (order-entered (here .pre .0) (here .args .o) _ _ _ may (arrival .arrival-of .ensures) _ _ (done .enter .ensures)))
 
 pub enter-marked-spec : {M : Type 1} → statement M
 enter-marked-spec =
@@ -94,11 +125,10 @@ enter-marked-spec =
     same-length-2
     same-length-3
     returns
+    add-arrival-of
     arrival-of-requires
     enter-requires
-    add-with-entry
-    with-entry-requires
-    accepted-requires
+    carried-requires
     same-length-4
     same-length-5
     same-length-6

@@ -17,7 +17,7 @@ abbrev matched : tie.Else2 → tie.After-is-match
 matched c = c .before .before .before
 
 returns : tie.Need-returns
-returns c = match-decided _ _ _ _ _ _ (sym (c .before .before .is-match .ensures) ∙ c .before .if1 .taken) (c .left .ensures)
+returns c = match-decided (start (c .before .before) .pre) _ _ (sym (c .before .before .is-match .ensures) ∙ c .before .if1 .taken) (c .left .ensures)
 
 returns-2 : tie.Need-returns-2
 returns-2 c =

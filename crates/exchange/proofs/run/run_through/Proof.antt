@@ -1,5 +1,6 @@
 -- `run::run_through` meets its contract: what the first k commands leave is the rules' run of them, an arm of the update a turn. Assumes nothing.
-use mathlib.Core.Path.{refl, ap, _∙_}
+use mathlib.Core.Logic.{⊎-elim}
+use mathlib.Core.Path.{_≡_, refl, ap, _∙_}
 use Prim.Native.Nat.{ℕ, _+_, _<_, _≤_, _-_, _*_, _/_, _^_}
 use native.Mathlib.Nat.{div-mul-le-self}
 use native.Mathlib.Omega.{arith}
@@ -10,7 +11,7 @@ use Rattle.rules.specs.Bounds.{maxResting}
 use Rattle.rules.specs.Command.{commandOf}
 use Rattle.rules.specs.DayFile.{commandWidth}
 use Rattle.commands.specs.Accounts.{accountNumber}
-use Rattle.exchange.proofs.Decided.{place-fits, held-at, nothing-left, balance-place, balance-left, listing-place, listing-left, pending-ready, pending-responded}
+use Rattle.exchange.proofs.Decided.{Joined, place-fits, held-at, nothing-left, balance-place, balance-left, listing-joined, pending-joined, pending-ready, whole-ready, whole-responded}
 use Rattle.exchange.proofs.Runs.{Running, running-none, running-formed, running-on, running-done}
 use Rattle.exchange.proofs.run.run_through.Statement.{statement}
 use Rattle.exchange.proofs.run.run_through.Tie as tie
@@ -74,21 +75,16 @@ loop-again-2 c =
           (known .decide .kept .1 .1 .0) (known .decide .kept .1 .1 .1 .0) refl,
     )
 
-loop-again-3 : tie.Need-loop-again-3 Inv-loop μ-loop
-loop-again-3 c =
-    let told = c .before .before in
-    let known = decided (told .before .before) in
-    let here = turn known in (
-      omega (arith, here .loop-test .taken),
-      running-on (here .before .loop .inv .1) (command known .command-of .ensures ∙ ap commandOf (command known .before .record-at .ensures)) (listing-left (known .decide .ensures) (told .update2 .given .1))
-          (known .decide .kept .1 .1 .0) (known .decide .kept .1 .1 .1 .0) refl,
-    )
-
 carry-out-requires : tie.Need-carry-out-requires Inv-loop μ-loop
 carry-out-requires c κs =
     let told = c .before .before .before .before in
+    pending-ready (decided (told .before .before) .decide .ensures) (told .update3 .given .1)
+
+carry-whole-requires : tie.Need-carry-whole-requires Inv-loop μ-loop
+carry-whole-requires c κs =
+    let told = c .before .before .before .before in
     let known = decided (told .before .before) in
-    pending-ready (known .decide .ensures) (told .update3 .given .1) (running-formed (turn known .before .loop .inv .1))
+    whole-ready (known .decide .ensures) (told .update4 .given .1) (running-formed (turn known .before .loop .inv .1))
 
 -- from the state that is left to what was decided
 abbrev known-left : tie.After-current Inv-loop μ-loop → tie.After-decide Inv-loop μ-loop
@@ -98,11 +94,8 @@ known-left c =
     let asked = done .before .before .before .before in
     decided (asked .before .before .before)
 
-loop-less-4 : tie.Need-loop-less-4 Inv-loop μ-loop
-loop-less-4 c = omega (arith, turn (known-left c) .loop-test .taken)
-
-loop-again-4 : tie.Need-loop-again-4 Inv-loop μ-loop
-loop-again-4 c =
+loop-again-3 : tie.Need-loop-again-3 Inv-loop μ-loop
+loop-again-3 c =
     let back = c .before .before .before .before in
     let done = back .before .before .before in
     let asked = done .before .before .before .before in
@@ -111,8 +104,43 @@ loop-again-4 c =
     let here = turn known in (
       omega (arith, here .loop-test .taken),
       running-on (here .before .loop .inv .1) (command known .command-of .ensures ∙ ap commandOf (command known .before .record-at .ensures))
-          (pending-responded (known .decide .ensures) (told .update3 .given .1) (done .carry-out .ensures) .memory)
-          (done .carry-out .kept .1 .0 ∙ known .decide .kept .1 .1 .0) (done .carry-out .kept .1 .1 .0 ∙ known .decide .kept .1 .1 .1 .0) (done .carry-out .kept .1 .1 .1 .0),
+          (whole-responded (known .decide .ensures) (told .update4 .given .1) (done .carry-whole .ensures) .memory)
+          (done .carry-whole .kept .1 .0 ∙ known .decide .kept .1 .1 .0) (done .carry-whole .kept .1 .1 .0 ∙ known .decide .kept .1 .1 .1 .0) (done .carry-whole .kept .1 .1 .1 .0),
+    )
+
+-- ---- where the contract is left to be written
+
+joined : (c : tie.At-match-came Inv-loop μ-loop) → let known = decided (c .before) in
+    let here = turn known .before .loop in
+    Joined (here .current) (here .buys) (here .sells) (here .trades) (command known .command-of .result) (c .match .current) (c .match .listed) (c .match .buys) (c .match .sells) (c .match .trades)
+joined c =
+    let known = decided (c .before) .decide .ensures in
+    ⊎-elim
+    (λ l. listing-joined known (l .1 .given .1) (l .6) (l .7) (l .3) (l .4) (l .5))
+    (λ p. pending-joined known (p .1 .given .1) (p .6 .ensures) (p .18) (p .19) (p .15) (p .16) (p .17))
+    (c .match .came)
+
+buys-kept : (c : tie.At-match-came Inv-loop μ-loop) → length (c .match .buys) ≡ length (turn (decided (c .before)) .before .loop .buys)
+buys-kept c =
+    let known = decided (c .before) .decide .kept in
+    ⊎-elim (λ l. ap length (l .3) ∙ known .1 .1 .0) (λ p. ap length (p .15) ∙ p .6 .kept .1 .0 ∙ known .1 .1 .0) (c .match .came)
+
+sells-kept : (c : tie.At-match-came Inv-loop μ-loop) → length (c .match .sells) ≡ length (turn (decided (c .before)) .before .loop .sells)
+sells-kept c =
+    let known = decided (c .before) .decide .kept in
+    ⊎-elim (λ l. ap length (l .4) ∙ known .1 .1 .1 .0) (λ p. ap length (p .16) ∙ p .6 .kept .1 .1 .0 ∙ known .1 .1 .1 .0) (c .match .came)
+
+trades-kept : (c : tie.At-match-came Inv-loop μ-loop) → length (c .match .trades) ≡ length (turn (decided (c .before)) .before .loop .trades)
+trades-kept c = ⊎-elim (λ l. ap length (l .5)) (λ p. ap length (p .17) ∙ p .6 .kept .1 .1 .1 .0) (c .match .came)
+
+loop-again-4 : tie.Need-loop-again-4 Inv-loop μ-loop
+loop-again-4 c =
+    let joint = c .before in
+    let known = decided (joint .before) in
+    let here = turn known in (
+      omega (arith, here .loop-test .taken),
+      running-on (here .before .loop .inv .1) (command known .command-of .ensures ∙ ap commandOf (command known .before .record-at .ensures)) (joined joint .left)
+          (buys-kept joint) (sells-kept joint) (trades-kept joint),
     )
 
 pub run-through-spec : {M : Type 1} → statement M
@@ -141,17 +169,19 @@ run-through-spec =
     (λ c. let told = c .before .before in omega (arith, turn (decided (told .before .before)) .loop-test .taken))  -- loop-less-2
     loop-again-2
     (λ c. search needs)
-    (λ c. let told = c .before .before in omega (arith, listing-place (decided (told .before .before) .decide .ensures) (told .update2 .given .1)))  -- mul-terms
-    (λ c. let told = c .before .before in listing-place (decided (told .before .before) .decide .ensures) (told .update2 .given .1))  -- element-set-from-terms
-    (λ c. let told = c .before .before in omega (arith, listing-place (decided (told .before .before) .decide .ensures) (told .update2 .given .1)))  -- mul-current
-    (λ c. let told = c .before .before in listing-place (decided (told .before .before) .decide .ensures) (told .update2 .given .1))  -- element-write-current
-    (λ c. let told = c .before .before in omega (arith, listing-place (decided (told .before .before) .decide .ensures) (told .update2 .given .1)))  -- mul-current-2
-    (λ c. let told = c .before .before in listing-place (decided (told .before .before) .decide .ensures) (told .update2 .given .1))  -- element-write-current-2
-    (λ c. let told = c .before .before in omega (arith, turn (decided (told .before .before)) .loop-test .taken))  -- loop-less-3
-    loop-again-3
     (λ c. search needs)
     carry-out-requires
-    loop-less-4
+    (λ c. search needs)
+    carry-whole-requires
+    (λ c. omega (arith, turn (known-left c) .loop-test .taken))  -- loop-less-3
+    loop-again-3
+    (λ c. omega (arith, joined (c .before) .place))  -- mul-terms
+    (λ c. joined (c .before) .place)  -- element-set-from-terms
+    (λ c. omega (arith, joined (c .before) .place))  -- mul-current
+    (λ c. joined (c .before) .place)  -- element-write-current
+    (λ c. omega (arith, joined (c .before) .place))  -- mul-current-2
+    (λ c. joined (c .before) .place)  -- element-write-current-2
+    (λ c. let joint = c .before in omega (arith, turn (decided (joint .before)) .loop-test .taken))  -- loop-less-4
     loop-again-4
     (λ c. search needs)
     (λ c. search needs)
