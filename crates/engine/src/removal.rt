@@ -138,11 +138,8 @@ pub fn cancel(
     let listed = updates::listed_at(state, c);
     let bid = cancel_in(buys, c, listed.bought, a, number);
     if bid.code == 0 {
-        return updates::accepted(
-            with_orders(listed, bid.count, listed.sold),
-            number,
-            bid.lots,
-        );
+        let left = with_orders(listed, bid.count, listed.sold);
+        return updates::accepted(left, number, bid.lots);
     }
     if bid.code == 15 {
         return updates::refused(15);
@@ -151,11 +148,8 @@ pub fn cancel(
     if offer.code != 0 {
         return updates::refused(offer.code);
     }
-    updates::accepted(
-        with_orders(listed, listed.bought, offer.count),
-        number,
-        offer.lots,
-    )
+    let left = with_orders(listed, listed.bought, offer.count);
+    updates::accepted(left, number, offer.lots)
 }
 
 pub fn pull(

@@ -64,21 +64,10 @@ fn total<'a>(
     while c < count {
         let contract = contracts[c];
         let h = holder.holdings[c];
-        let price = prices[c];
+        let due = prices[c];
         let reference = contract.reference;
         let multiplier = contract.multiplier;
-        let p = profit::profit_at(
-            closed,
-            closes,
-            opened,
-            opens,
-            used,
-            a,
-            c,
-            reference,
-            h,
-            price,
-        );
+        let p = profit::profit_at(closed, closes, opened, opens, used, a, c, reference, h, due);
         closing += multiplied(p.closing, multiplier);
         holding += multiplied(p.holding, multiplier);
         c += 1;
@@ -160,29 +149,26 @@ pub fn all_paid(state: State, trades: &[u32], prices: [u32; rules::MAX_CONTRACTS
     let mut opens: [u64; sums::SLOTS] = [0; sums::SLOTS];
     let mut left: [u32; sums::SLOTS] = [0; sums::SLOTS];
     let mut used: [u64; sums::SLOTS] = [0; sums::SLOTS];
-    let made = state.tradecount;
-    sums::add_up(trades, made, true, &mut closed, &mut closes);
-    sums::add_up(trades, made, false, &mut opened, &mut opens);
+    sums::add_up(trades, state.tradecount, true, &mut closed, &mut closes);
+    sums::add_up(trades, state.tradecount, false, &mut opened, &mut opens);
     put_all_due(state, &closed, &mut left);
-    sums::take_first(trades, made, &mut left, &mut used);
-    let contracts = state.contractcount;
-    let count = state.accountcount;
+    sums::take_first(trades, state.tradecount, &mut left, &mut used);
     let terms = state.contracts;
     let priced = Priced {
         contracts: terms,
         prices,
-        count: contracts,
+        count: state.contractcount,
     };
     let mut accounts = state.accounts;
     let mut closing: [i64; rules::MAX_ACCOUNTS] = [0; rules::MAX_ACCOUNTS];
     let mut holding: [i64; rules::MAX_ACCOUNTS] = [0; rules::MAX_ACCOUNTS];
     let mut a: usize = 0;
-    while a < count {
+    while a < state.accountcount {
         let account = state.accounts[a];
         let p = total(account, priced, &closed, &closes, &opened, &opens, &used, a);
         let gained = p.closing;
         let held = p.holding;
-        accounts[a] = paid(account, contracts, gained, held);
+        accounts[a] = paid(account, state.contractcount, gained, held);
         closing[a] = gained;
         holding[a] = held;
         a += 1;

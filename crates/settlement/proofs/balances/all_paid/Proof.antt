@@ -11,12 +11,12 @@ use Rattle.settlement.proofs.balances.all_paid.Statement.{statement}
 use Rattle.settlement.proofs.balances.all_paid.Tie as tie
 
 abbrev Inv-loop : tie.InvT-loop
-Inv-loop trades state closed closes opened opens used made contracts count priced accounts₀ closing₀ holding₀ a₀ accounts closing holding a =
+Inv-loop trades state closed closes opened opens used priced accounts₀ closing₀ holding₀ a₀ accounts closing holding a =
     DaySummed state trades (priced .prices) closed closes opened opens used × Paying state trades (priced .prices) accounts closing holding a
 
 abbrev μ-loop : tie.MeasureT-loop
-μ-loop trades state closed closes opened opens used made contracts count priced accounts₀ closing₀ holding₀ a₀ accounts closing holding a =
-    count - a
+μ-loop trades state closed closes opened opens used priced accounts₀ closing₀ holding₀ a₀ accounts closing holding a =
+    state .accountcount - a
 
 put-all-due-requires : tie.Need-put-all-due-requires Inv-loop μ-loop
 put-all-due-requires c κs =

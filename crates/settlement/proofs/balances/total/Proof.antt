@@ -66,8 +66,8 @@ total-spec =
     (λ c. omega arith)  -- array-copy-out-contract
     (λ c. omega arith)  -- mul-h
     (λ c. omega arith)  -- element-copy-out-h
-    (λ c. omega arith)  -- mul-price
-    (λ c. omega arith)  -- array-read-price
+    (λ c. omega arith)  -- mul-due
+    (λ c. omega arith)  -- array-read-due
     profit-at-requires
     multiplied-requires
     add-closing
