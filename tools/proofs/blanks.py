@@ -6,6 +6,7 @@ from proofs import syntax
 
 # Facts that a place has. A path through one of them is a proof, which nothing else determines.
 FACTS = {".pre", ".ensures", ".taken", ".left", ".inv", ".given", ".good", ".kept", ".ok", ".came", ".fits", ".blocks"}
+DATA = {".args", ".result", ".now"}
 TACTICS = {"rw", "simp", "omega", "search", "cc", "let", "in", "ap", "sym", "absurd", "λ", "at"}
 
 
@@ -27,8 +28,8 @@ def candidates(text, item):
 
 def is_data(inside):
     """Whether an argument is a path, or a law's word for paths, to data: to no fact, and not to a place."""
-    path = {word for word in inside if word.startswith(".") and word not in (".", ".before")}
-    return bool(path) and not path & FACTS and not {"λ", ",", "=", "let"} & set(inside) and inside[-1] != ".before"
+    path = {word for word in inside if word.startswith(".")}
+    return bool(path & DATA) and not path & FACTS and not {"λ", ",", "=", "let"} & set(inside) and inside[-1] != ".before"
 
 
 def blanked(text, chosen):

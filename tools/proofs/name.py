@@ -8,11 +8,11 @@ top of the file (naming); an argument that the prover finds by itself is `_` (bl
 from proofs import blanks, kit, layout, lengths, naming, places, shorten, syntax
 
 # How often what is refused is put back; in the last turns a file goes back whole.
-MOST_TURNS, LAST_TURNS = 12, 3
+MOST_TURNS, LAST_TURNS = 20, 4
 # How often an answer in `tie.spec` is put back alone: of one `tie.spec` the check tells one at a time. Then all but the plain go back.
 TURNS_BY_ONE = 3
 # Characters of an answer in `tie.spec`, with the comment behind it.
-ANSWER = 140
+ANSWER = 160
 
 
 class Trial:
@@ -52,10 +52,10 @@ class Trial:
 class File:
     """A proof file on the way: as it was, what is tried of each definition, and the function's places and source."""
 
-    def __init__(self, text, reading):
+    def __init__(self, text, reading, is_plain):
         self.old, self.reading, self.width, self.by_one, self.is_out = text, reading, ANSWER, 0, False
-        able = {answer.name for answer in shorten.answers(text.split("\n")) if shorten.searched_by(answer)}
-        counts = blanks.counted(text)
+        able = {answer.name for answer in shorten.answers(text.split("\n")) if not is_plain and shorten.searched_by(answer)}
+        counts = {} if is_plain else blanks.counted(text)
         self.trials = {name: Trial(name in able, counts.get(name, 0)) for name in defined(text)}
 
     def but(self, is_out):
@@ -103,7 +103,7 @@ def function_of(path):
     return "::".join(path.split("/")[3:-1])
 
 
-def files_of(crate, made, wanted):
+def files_of(crate, made, wanted, is_plain):
     """The files that are to change. A cycle of calls has its places in several files, and keeps its ways."""
     found, files = places.functions(made, crate.name) if made else {}, {}
     for path, text in crate.old.items():
@@ -112,13 +112,13 @@ def files_of(crate, made, wanted):
         if name in found:
             reading = (places.read(found[name].read_text(encoding="utf-8")), naming.source_of(crate.root, crate.name, name))
         if wanted(path):
-            files[path] = File(text, reading)
+            files[path] = File(text, reading, is_plain)
     return files
 
 
-def name(crate, made, wanted):
+def name(crate, made, wanted, is_plain=False):
     """Has a crate tell its facts by name, as far as it is proved so; otherwise the crate stays as it was."""
-    files, is_done = files_of(crate, made, wanted), False
+    files, is_done = files_of(crate, made, wanted, is_plain), False
     try:
         for turn in range(MOST_TURNS):
             crate.put({path: file.text() for path, file in files.items()})
@@ -133,7 +133,11 @@ def name(crate, made, wanted):
                 return
             unsolved = {path: {each: at for (where, each), at in crate.unsolved.items() if where == path} for path in files}
             is_late = turn >= MOST_TURNS - LAST_TURNS
-            can_go_on = [file.judge(refused.get(path, ()), unsolved[path], crate.now[path], is_late) for path, file in files.items()]
+            can_go_on = [
+                file.judge(refused.get(path, ()), unsolved[path], crate.now[path], is_late)
+                for path, file in files.items()
+                if path not in crate.unchecked
+            ]
             if not all(can_go_on) or (not is_proved and not refused):
                 break
         raise kit.NotUsable(f"{crate.name} is not proved: nothing is changed")
@@ -150,7 +154,7 @@ def run(root, arguments, write):
             raise kit.NotUsable(f"there is no {asked}")
         before = lengths.of_crate(root, crate_name)
         made = places.made_for(root, crate_name) if before.long_runs else None
-        name(crate, made, lambda path: not asked or path == asked)
+        name(crate, made, lambda path: not asked or path == asked, arguments.plain)
         after = lengths.of_crate(root, crate_name)
         write(
             f"{crate_name}: proved; lines {before.function_lines} to {after.function_lines}, ways too long {before.long_runs} to "

@@ -12,6 +12,8 @@ from proofs import kit
 HEAD = re.compile(r"^([a-z][\w′-]*) : tie\.(Need-[\w-]+)")
 ERROR = re.compile(r"^(crates/\S+/Proof\.antt):(\d+):(\d+): (?:error:|unsolved \?\d+ in) `([^`]+)`")
 UNSOLVED = re.compile(r"\S+ unsolved ")
+# Of a function that calls one that is refused nothing is checked.
+UNCHECKED = re.compile(r"^fn \w+::(\S+): not proved; it calls ")
 # Said of a caller whose callee is refused.
 FOLLOWS = "was not admitted"
 TRIVIAL = re.compile(r"^((?: c)?(?: κs)?) = (search [a-z][\w′-]*|omega arith)$")
@@ -19,6 +21,7 @@ LEFT = re.compile(r"^((?: c)?(?: κs)?) = ?(.*)$")
 LAW = re.compile(r"^([a-zA-Z][\w′-]*)(?: |$)")
 BEHIND = re.compile(r"\)  -- (\S+)$")
 ONE_LINE_SPEC = re.compile(r"(?m)^([\w′-]+-spec) = tie\.close \(tie\.spec ([\w′ -]+)\)$")
+SPREAD_SPEC = re.compile(r"(?m)^([\w′-]+-spec) =\n    tie\.close\n    \(tie\.spec$")
 
 # Words that an answer may begin with and that name no law.
 NO_LAW = {"rw", "simp", "omega", "cc", "record", "let", "elim", "absurd", "ap", "sym", "refl", "search", "unfold", "subst", "c"}
@@ -87,13 +90,13 @@ def searched(text, but=()):
 
 
 def spread(text):
-    """A proof whose `tie.spec` has a line for each answer."""
+    """A proof whose `tie.spec` has a line for each answer, and none of its own."""
 
     def laid_out(match):
         below = "\n    ".join(match.group(2).split())
-        return f"{match.group(1)} =\n    tie.close\n    (tie.spec\n    {below})"
+        return f"{match.group(1)} = tie.close (tie.spec\n    {below})"
 
-    return ONE_LINE_SPEC.sub(laid_out, text)
+    return ONE_LINE_SPEC.sub(laid_out, SPREAD_SPEC.sub(r"\1 = tie.close (tie.spec", text))
 
 
 def uses(name, text):
@@ -126,7 +129,7 @@ def inlined(text, width=0, but=()):
     shorter = "\n".join(lines)
     at = shorter.rfind("(tie.spec")
     if not moved or at < 0:
-        return text
+        return SPREAD_SPEC.sub(r"\1 = tie.close (tie.spec", text)
     above, spec = shorter[:at], shorter[at:]
     for name, answer in moved.items():
         spec, count = re.subn(
@@ -148,7 +151,8 @@ class Crate:
         files = sorted((kit.crate_folder(root, name) / "proofs").rglob("Proof.antt"))
         self.old = {path.relative_to(root).as_posix(): path.read_text(encoding="utf-8") for path in files}
         self.now = dict(self.old)
-        self.unsolved = {}  # of the last check, by file and definition: the lines and columns of each `_` that was not determined
+        # Of the last check, by file and definition: the lines and columns of each `_` that was not determined; and the files not read.
+        self.unsolved, self.unchecked = {}, set()
 
     def put(self, texts):
         """Has these proofs stand in the files."""
@@ -165,8 +169,10 @@ class Crate:
     def check(self):
         """Whether the crate is proved, and the names that are refused by file; an answer in `tie.spec` by the comment behind it."""
         status, lines = kit.dev_lines(self.root, self.name)
-        refused, follows, self.unsolved = {}, {}, {}
+        refused, follows, self.unsolved, self.unchecked = {}, {}, {}, set()
         for line in lines:
+            if unchecked := UNCHECKED.match(line):
+                self.unchecked.add(f"crates/{self.name}/proofs/{unchecked.group(1).replace('::', '/')}/Proof.antt")
             error = ERROR.match(line)
             if error and error.group(1) in self.old:
                 path, row, column, name = error.groups()

@@ -13,40 +13,10 @@ Inv-loop part₀ w n i₀ part i = (i ≤ n) × (part ≡ advanced w part₀ i) 
 abbrev μ-loop : tie.MeasureT-loop
 μ-loop part₀ w n i₀ part i = n - i
 
-sub-n : tie.Need-sub-n Inv-loop μ-loop
-sub-n c = omega arith
-
-loop-holds : tie.Need-loop-holds Inv-loop μ-loop
-loop-holds c = (omega arith, advanced-none _ _, refl)
-
-add-part : tie.Need-add-part Inv-loop μ-loop
-add-part c = omega arith
-
-mul-part : tie.Need-mul-part Inv-loop μ-loop
-mul-part c = omega arith
-
-slice-read-part : tie.Need-slice-read-part Inv-loop μ-loop
-slice-read-part c = omega arith
-
-mul-part-2 : tie.Need-mul-part-2 Inv-loop μ-loop
-mul-part-2 c = omega arith
-
-slice-write-part : tie.Need-slice-write-part Inv-loop μ-loop
-slice-write-part c = omega arith
-
-add-i : tie.Need-add-i Inv-loop μ-loop
-add-i c = omega arith
-
-loop-less : tie.Need-loop-less Inv-loop μ-loop
-loop-less c = omega arith
-
 loop-again : tie.Need-loop-again Inv-loop μ-loop
 loop-again c =
     let at = c .before .before .loop in
     (omega arith, rw (at .inv .1) (advance-step _ _ _ (c .before .loop-test .taken)), simp length-set (at .inv .2))
-
-same-length : tie.Need-same-length Inv-loop μ-loop
-same-length c = c .before .loop .inv .2
 
 returns : tie.Need-returns Inv-loop μ-loop
 returns c =
@@ -55,20 +25,18 @@ returns c =
     c .before .loop .inv .1 ∙ rw end (advanced-done _ _ (start .pre))
 
 pub move-forward-spec : {M : Type 1} → statement M
-move-forward-spec =
-    tie.close
-    (tie.spec
+move-forward-spec = tie.close (tie.spec
     Inv-loop
     μ-loop
-    sub-n
-    loop-holds
-    add-part
-    mul-part
-    slice-read-part
-    mul-part-2
-    slice-write-part
-    add-i
-    loop-less
+    (λ c. omega arith)  -- sub-n
+    (λ c. (omega arith, advanced-none _ _, refl))  -- loop-holds
+    (λ c. omega arith)  -- add-part
+    (λ c. omega arith)  -- mul-part
+    (λ c. omega arith)  -- slice-read-part
+    (λ c. omega arith)  -- mul-part-2
+    (λ c. omega arith)  -- slice-write-part
+    (λ c. omega arith)  -- add-i
+    (λ c. omega arith)  -- loop-less
     loop-again
-    same-length
+    (λ c. c .before .loop .inv .2)  -- same-length
     returns)

@@ -5,9 +5,7 @@ use Rattle.commands.proofs.account_number.Statement.{statement}
 use Rattle.commands.proofs.account_number.Tie as tie
 
 pub account-number-spec : {M : Type 1} → statement M
-account-number-spec =
-    tie.close
-    (tie.spec
+account-number-spec = tie.close (tie.spec
     (λ c. search needs)
     (λ c. search needs)
     (λ c. search needs)

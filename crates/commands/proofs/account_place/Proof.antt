@@ -5,9 +5,7 @@ use Rattle.commands.proofs.account_place.Statement.{statement}
 use Rattle.commands.proofs.account_place.Tie as tie
 
 pub account-place-spec : {M : Type 1} → statement M
-account-place-spec =
-    tie.close
-    (tie.spec
+account-place-spec = tie.close (tie.spec
     (λ c κs. search needs)  -- account-number-requires
     (λ c. search first-of-none)  -- returns
     (λ c κs. search needs)  -- wide-requires

@@ -7,9 +7,6 @@ use Rattle.commands.proofs.Flags.{masked-low}
 use Rattle.commands.proofs.cancel_of.Statement.{statement}
 use Rattle.commands.proofs.cancel_of.Tie as tie
 
-all-zero-requires : tie.Need-all-zero-requires
-all-zero-requires c κs = search needs
-
 returns : tie.Need-returns
 unfolding zeros allOf cancelOf
 returns c = rw (← c .before .all-zero .ensures, not-true (c .before .all-zero .result) (c .if1 .taken))
@@ -21,12 +18,6 @@ returns-2 c = rw (
   not-false (c .before .before .all-zero .result) (c .before .if1 .left),
   lt-leb _ _ (c .if2 .taken),
 )
-
-cast-t5 : tie.Need-cast-t5
-cast-t5 c = search needs
-
-cast-t6 : tie.Need-cast-t6
-cast-t6 c = search needs
 
 returns-3 : tie.Need-returns-3
 unfolding zeros allOf cancelOf
@@ -40,4 +31,10 @@ returns-3 c =
     )
 
 pub cancel-of-spec : {M : Type 1} → statement M
-cancel-of-spec = tie.close (tie.spec all-zero-requires returns returns-2 cast-t5 cast-t6 returns-3)
+cancel-of-spec = tie.close (tie.spec
+    (λ c κs. search needs)  -- all-zero-requires
+    returns
+    returns-2
+    (λ c. search needs)  -- cast-t5
+    (λ c. search needs)  -- cast-t6
+    returns-3)

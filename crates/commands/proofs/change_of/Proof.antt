@@ -5,15 +5,6 @@ use Rattle.rules.specs.Command.{zeros, changeOf}
 use Rattle.commands.proofs.change_of.Statement.{statement}
 use Rattle.commands.proofs.change_of.Tie as tie
 
-all-zero-requires : tie.Need-all-zero-requires
-all-zero-requires c κs = search needs
-
-cast-t4 : tie.Need-cast-t4
-cast-t4 c = search needs
-
-cast-t5 : tie.Need-cast-t5
-cast-t5 c = search needs
-
 returns : tie.Need-returns
 unfolding zeros allOf changeOf
 returns c = rw (← c .before .before .before .all-zero .ensures, c .before .before .if1 .taken)
@@ -23,4 +14,9 @@ unfolding zeros allOf changeOf
 returns-2 c = rw (← c .before .all-zero .ensures, c .if1 .left)
 
 pub change-of-spec : {M : Type 1} → statement M
-change-of-spec = tie.close (tie.spec all-zero-requires cast-t4 cast-t5 returns returns-2)
+change-of-spec = tie.close (tie.spec
+    (λ c κs. search needs)  -- all-zero-requires
+    (λ c. search needs)  -- cast-t4
+    (λ c. search needs)  -- cast-t5
+    returns
+    returns-2)

@@ -7,9 +7,7 @@ use Rattle.commands.proofs.command_of.Tie as tie
 
 pub command-of-spec : {M : Type 1} → statement M
 unfolding commandOf
-command-of-spec =
-    tie.close
-    (tie.spec
+command-of-spec = tie.close (tie.spec
     (λ c κs. search needs)
     (λ c κs. search needs)
     (λ c κs. search needs)

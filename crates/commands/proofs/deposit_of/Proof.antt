@@ -5,12 +5,6 @@ use Rattle.rules.specs.Command.{zeros, depositOf}
 use Rattle.commands.proofs.deposit_of.Statement.{statement}
 use Rattle.commands.proofs.deposit_of.Tie as tie
 
-all-zero-requires : tie.Need-all-zero-requires
-all-zero-requires c κs = search needs
-
-cast-t4 : tie.Need-cast-t4
-cast-t4 c = search needs
-
 returns : tie.Need-returns
 unfolding zeros allOf depositOf
 returns c = rw (← c .before .before .all-zero .ensures, c .before .if1 .taken)
@@ -20,4 +14,8 @@ unfolding zeros allOf depositOf
 returns-2 c = rw (← c .before .all-zero .ensures, c .if1 .left)
 
 pub deposit-of-spec : {M : Type 1} → statement M
-deposit-of-spec = tie.close (tie.spec all-zero-requires cast-t4 returns returns-2)
+deposit-of-spec = tie.close (tie.spec
+    (λ c κs. search needs)  -- all-zero-requires
+    (λ c. search needs)  -- cast-t4
+    returns
+    returns-2)

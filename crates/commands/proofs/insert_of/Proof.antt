@@ -6,15 +6,9 @@ use Rattle.rules.specs.Command.{zeros, insertOf}
 use Rattle.commands.proofs.insert_of.Statement.{statement}
 use Rattle.commands.proofs.insert_of.Tie as tie
 
-all-zero-requires : tie.Need-all-zero-requires
-all-zero-requires c κs = search needs
-
 returns : tie.Need-returns
 unfolding zeros allOf insertOf
 returns c = rw (← c .before .all-zero .ensures, not-true (c .before .all-zero .result) (c .if1 .taken))
-
-insert-flags-requires : tie.Need-insert-flags-requires
-insert-flags-requires c κs = search needs
 
 returns-2 : tie.Need-returns-2
 unfolding zeros allOf insertOf
@@ -26,9 +20,6 @@ returns-2 c =
       ← c .before .insert-flags .ensures,
       not-true (c .before .insert-flags .result) (c .if2 .taken),
     )
-
-new-order-requires : tie.Need-new-order-requires
-new-order-requires c κs = search needs
 
 returns-3 : tie.Need-returns-3
 unfolding zeros allOf insertOf
@@ -43,12 +34,10 @@ returns-3 c =
     )
 
 pub insert-of-spec : {M : Type 1} → statement M
-insert-of-spec =
-    tie.close
-    (tie.spec
-    all-zero-requires
+insert-of-spec = tie.close (tie.spec
+    (λ c κs. search needs)  -- all-zero-requires
     returns
-    insert-flags-requires
+    (λ c κs. search needs)  -- insert-flags-requires
     returns-2
-    new-order-requires
+    (λ c κs. search needs)  -- new-order-requires
     returns-3)

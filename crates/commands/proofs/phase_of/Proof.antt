@@ -6,15 +6,9 @@ use Rattle.rules.specs.Command.{zeros, phaseOf}
 use Rattle.commands.proofs.phase_of.Statement.{statement}
 use Rattle.commands.proofs.phase_of.Tie as tie
 
-all-zero-requires : tie.Need-all-zero-requires
-all-zero-requires c κs = search needs
-
 returns : tie.Need-returns
 unfolding zeros allOf phaseOf
 returns c = rw (← c .before .all-zero .ensures, not-true (c .before .all-zero .result) (c .if1 .taken))
-
-cast-phase : tie.Need-cast-phase
-cast-phase c = search needs
 
 returns-2 : tie.Need-returns-2
 unfolding zeros allOf phaseOf
@@ -25,9 +19,6 @@ returns-2 c =
       not-false (b .before .all-zero .result) (b .if1 .left),
       lt-leb _ _ (c .if2 .taken),
     )
-
-cast-t5 : tie.Need-cast-t5
-cast-t5 c = search needs
 
 returns-3 : tie.Need-returns-3
 unfolding zeros allOf phaseOf
@@ -40,4 +31,10 @@ returns-3 c =
     )
 
 pub phase-of-spec : {M : Type 1} → statement M
-phase-of-spec = tie.close (tie.spec all-zero-requires returns cast-phase returns-2 cast-t5 returns-3)
+phase-of-spec = tie.close (tie.spec
+    (λ c κs. search needs)  -- all-zero-requires
+    returns
+    (λ c. search needs)  -- cast-phase
+    returns-2
+    (λ c. search needs)  -- cast-t5
+    returns-3)

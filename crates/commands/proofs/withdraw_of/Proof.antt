@@ -5,12 +5,6 @@ use Rattle.rules.specs.Command.{zeros, withdrawOf}
 use Rattle.commands.proofs.withdraw_of.Statement.{statement}
 use Rattle.commands.proofs.withdraw_of.Tie as tie
 
-all-zero-requires : tie.Need-all-zero-requires
-all-zero-requires c κs = search needs
-
-cast-t4 : tie.Need-cast-t4
-cast-t4 c = search needs
-
 returns : tie.Need-returns
 unfolding zeros allOf withdrawOf
 returns c = rw (← c .before .before .all-zero .ensures, c .before .if1 .taken)
@@ -20,4 +14,8 @@ unfolding zeros allOf withdrawOf
 returns-2 c = rw (← c .before .all-zero .ensures, c .if1 .left)
 
 pub withdraw-of-spec : {M : Type 1} → statement M
-withdraw-of-spec = tie.close (tie.spec all-zero-requires cast-t4 returns returns-2)
+withdraw-of-spec = tie.close (tie.spec
+    (λ c κs. search needs)  -- all-zero-requires
+    (λ c. search needs)  -- cast-t4
+    returns
+    returns-2)

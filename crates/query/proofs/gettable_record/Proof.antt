@@ -13,47 +13,40 @@ use Rattle.query.proofs.Asking.{an-insert, no-insert, not-formed}
 use Rattle.query.proofs.gettable_record.Statement.{statement}
 use Rattle.query.proofs.gettable_record.Tie as tie
 
+-- back to the start
+abbrev Begun : tie.Else1 → tie.Start
+Begun c = c .before .before .before .before .before
+
+-- back to the call whose answer is `command`
+abbrev Command : tie.After-reading-of → tie.After-command-of
+Command c = c .before .before .before .before
+
 -- the test passed
-sound : (c : tie.Else1) → wellFormedMemory (memory (c .before .before .before .before .before .args .state) (now (c .before .before .before .before .before .args .buys)) (now (c .before .before .before .before .before .args .sells)) (now (c .before .before .before .before .before .args .trades))) ≡ true
+sound : (c : tie.Else1) → wellFormedMemory (memory (Begun c .args .state) (now (Begun c .args .buys)) (now (Begun c .args .sells)) (now (Begun c .args .trades))) ≡ true
 sound c = sym (c .before .well-formed .ensures) ∙ not-false (c .before .well-formed .result) (c .if1 .left)
-
-well-formed-requires : tie.Need-well-formed-requires
-well-formed-requires c κs = search needs
-
-refused-requires : tie.Need-refused-requires
-refused-requires c κs = search needs
 
 returns : tie.Need-returns
 returns c = c .refused .ensures ∙ not-formed _ _ (sym (c .before .before .well-formed .ensures) ∙ not-true (c .before .before .well-formed .result) (c .before .if1 .taken))
 
-command-of-requires : tie.Need-command-of-requires
-command-of-requires c κs = search needs
-
-enum-known-command : tie.Need-enum-known-command
-enum-known-command c = search needs
-
-refused-requires-2 : tie.Need-refused-requires-2
-refused-requires-2 c κs = search needs
-
 returns-2 : tie.Need-returns-2
-returns-2 c = c .refused2 .ensures ∙ no-insert _ _ (sound (c .before .before .before)) (ap isInsert (sym (c .before .before .command-of .ensures)) ∙ other-kind 3 tt (c .before .before .command-of .result) (c .before .match .keys2))
+returns-2 c =
+    c .refused2 .ensures ∙ no-insert _ _ (sound (c .before .before .before)) (ap isInsert (sym (c .before .before .command-of .ensures))
+    ∙ other-kind 3 tt (c .before .before .command-of .result) (c .before .match .keys2))
 
 reading-of-requires : tie.Need-reading-of-requires
-reading-of-requires c κs = record { declared = declared (c .before .before .before .before .before .before .before .before .before .good .0); formed = sound (c .before .before .before .before) }
+reading-of-requires c κs = record { declared = declared (Begun (c .before .before .before .before) .good .0); formed = sound (c .before .before .before .before) }
 
 returns-3 : tie.Need-returns-3
-returns-3 c = an-insert _ _ (sound (c .before .before .before .before .before)) (sym (c .before .before .before .before .command-of .ensures) ∙ c .before .before .command .given .1) (c .reading-of .ensures)
+returns-3 c = an-insert _ _ (sound (Command c .before)) (sym (c .before .before .before .before .command-of .ensures) ∙ c .before .before .command .given .1) (c .reading-of .ensures)
 
 pub gettable-record-spec : {M : Type 1} → statement M
-gettable-record-spec =
-    tie.close
-    (tie.spec
-    well-formed-requires
-    refused-requires
+gettable-record-spec = tie.close (tie.spec
+    (λ c κs. search needs)  -- well-formed-requires
+    (λ c κs. search needs)  -- refused-requires
     returns
-    command-of-requires
-    enum-known-command
-    refused-requires-2
+    (λ c κs. search needs)  -- command-of-requires
+    (λ c. search needs)  -- enum-known-command
+    (λ c κs. search needs)  -- refused-requires-2
     returns-2
     reading-of-requires
     returns-3)

@@ -7,23 +7,14 @@ use Rattle.rules.proofs.Terms.{terms}
 use Rattle.terms.proofs.day_high.Statement.{statement}
 use Rattle.terms.proofs.day_high.Tie as tie
 
-add-smaller : tie.Need-add-smaller
-add-smaller c =
-    let t = terms (c .before .args .c) (c .before .pre) in
-    record { fits = omega (arith, t .reference .high, t .band .high) }
-
-div-smaller : tie.Need-div-smaller
-div-smaller c = omega (arith, terms (c .before .args .c) (c .before .pre) .tick-low)
-
-mul-smaller : tie.Need-mul-smaller
-mul-smaller c = record { fits = omega (arith, div-add-mod' 1_000_000 (c .before .args .c .tick)) }
-
-smaller-requires : tie.Need-smaller-requires
-smaller-requires c κs = search needs
-
 returns : tie.Need-returns
 unfolding dayHigh
 returns c = c .smaller .ensures
 
 pub day-high-spec : {M : Type 1} → statement M
-day-high-spec = tie.close (tie.spec add-smaller div-smaller mul-smaller smaller-requires returns)
+day-high-spec = tie.close (tie.spec
+    (λ c. let t = terms (c .before .args .c) (c .before .pre) in record { fits = omega (arith, t .reference .high, t .band .high) })  -- add-smaller
+    (λ c. omega (arith, terms (c .before .args .c) (c .before .pre) .tick-low))  -- div-smaller
+    (λ c. record { fits = omega (arith, div-add-mod' 1_000_000 (c .before .args .c .tick)) })  -- mul-smaller
+    (λ c κs. search needs)  -- smaller-requires
+    returns)

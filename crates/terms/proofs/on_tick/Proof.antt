@@ -5,12 +5,11 @@ use Rattle.rules.specs.Bounds.{onTick}
 use Rattle.terms.proofs.on_tick.Statement.{statement}
 use Rattle.terms.proofs.on_tick.Tie as tie
 
-rem-result : tie.Need-rem-result
-rem-result c = search needs
-
 returns : tie.Need-returns
 unfolding onTick
 returns c = refl
 
 pub on-tick-spec : {M : Type 1} → statement M
-on-tick-spec = tie.close (tie.spec rem-result returns)
+on-tick-spec = tie.close (tie.spec
+    (λ c. search needs)  -- rem-result
+    returns)

@@ -28,45 +28,6 @@ terms-chain c = record { is = refl }
 some-tick : (c : tie.Else2) → 1 ≤ c .before .before .before .before .args .c .tick
 some-tick c = within-low 1 maxTick (c .before .before .before .before .args .c .tick) (passed (c .before .within2 .ensures) (c .if2 .left))
 
-within-requires : tie.Need-within-requires
-within-requires c κs = search needs
-
-returns : tie.Need-returns
-returns c = fails (terms-chain _) 0 (refused (c .before .within .ensures) (c .if1 .taken))
-
-within-requires-2 : tie.Need-within-requires-2
-within-requires-2 c κs = search needs
-
-returns-2 : tie.Need-returns-2
-returns-2 c = fails (terms-chain _) 1 (refused (c .before .within2 .ensures) (c .if2 .taken))
-
-tick-multiple-requires : tie.Need-tick-multiple-requires
-tick-multiple-requires c κs = some-tick c
-
-returns-3 : tie.Need-returns-3
-returns-3 c = fails (terms-chain _) 2 (refused (c .before .tick-multiple .ensures) (c .if3 .taken))
-
-tick-multiple-requires-2 : tie.Need-tick-multiple-requires-2
-tick-multiple-requires-2 c κs = some-tick (c .before .before)
-
-returns-4 : tie.Need-returns-4
-returns-4 c = fails (terms-chain _) 3 (refused (c .before .tick-multiple2 .ensures) (c .if4 .taken))
-
-within-requires-3 : tie.Need-within-requires-3
-within-requires-3 c κs = search needs
-
-returns-5 : tie.Need-returns-5
-returns-5 c = fails (terms-chain _) 4 (refused (c .before .within3 .ensures) (c .if5 .taken))
-
-cast-within : tie.Need-cast-within
-cast-within c = search needs
-
-within-requires-4 : tie.Need-within-requires-4
-within-requires-4 c κs = search needs
-
-returns-6 : tie.Need-returns-6
-returns-6 c = fails (terms-chain _) 5 (refused (c .before .within4 .ensures) (c .if6 .taken))
-
 returns-7 : tie.Need-returns-7
 returns-7 c =
     let rate = c .before in
@@ -84,20 +45,18 @@ returns-7 c =
     last (terms-chain _) (m, (t, (r, (b, (l, (s, tt))))))
 
 pub terms-in-range-spec : {M : Type 1} → statement M
-terms-in-range-spec =
-    tie.close
-    (tie.spec
-    within-requires
-    returns
-    within-requires-2
-    returns-2
-    tick-multiple-requires
-    returns-3
-    tick-multiple-requires-2
-    returns-4
-    within-requires-3
-    returns-5
-    cast-within
-    within-requires-4
-    returns-6
+terms-in-range-spec = tie.close (tie.spec
+    (λ c κs. search needs)  -- within-requires
+    (λ c. fails (terms-chain _) 0 (refused (c .before .within .ensures) (c .if1 .taken)))  -- returns
+    (λ c κs. search needs)  -- within-requires-2
+    (λ c. fails (terms-chain _) 1 (refused (c .before .within2 .ensures) (c .if2 .taken)))  -- returns-2
+    (λ c κs. some-tick c)  -- tick-multiple-requires
+    (λ c. fails (terms-chain _) 2 (refused (c .before .tick-multiple .ensures) (c .if3 .taken)))  -- returns-3
+    (λ c κs. some-tick (c .before .before))  -- tick-multiple-requires-2
+    (λ c. fails (terms-chain _) 3 (refused (c .before .tick-multiple2 .ensures) (c .if4 .taken)))  -- returns-4
+    (λ c κs. search needs)  -- within-requires-3
+    (λ c. fails (terms-chain _) 4 (refused (c .before .within3 .ensures) (c .if5 .taken)))  -- returns-5
+    (λ c. search needs)  -- cast-within
+    (λ c κs. search needs)  -- within-requires-4
+    (λ c. fails (terms-chain _) 5 (refused (c .before .within4 .ensures) (c .if6 .taken)))  -- returns-6
     returns-7)

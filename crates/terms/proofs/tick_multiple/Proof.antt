@@ -5,15 +5,9 @@ use Rattle.rules.specs.Bounds.{tickMultiple}
 use Rattle.terms.proofs.tick_multiple.Statement.{statement}
 use Rattle.terms.proofs.tick_multiple.Tie as tie
 
-on-tick-requires : tie.Need-on-tick-requires
-on-tick-requires c κs = search needs
-
 returns : tie.Need-returns
 unfolding tickMultiple
 returns c = rw (← c .before .on-tick .ensures, not-true (c .before .on-tick .result) (c .if1 .taken))
-
-within-requires : tie.Need-within-requires
-within-requires c κs = search needs
 
 returns-2 : tie.Need-returns-2
 unfolding tickMultiple
@@ -22,4 +16,8 @@ returns-2 c =
     rw (← b .on-tick .ensures, not-false (b .on-tick .result) (c .before .if1 .left), c .within .ensures)
 
 pub tick-multiple-spec : {M : Type 1} → statement M
-tick-multiple-spec = tie.close (tie.spec on-tick-requires returns within-requires returns-2)
+tick-multiple-spec = tie.close (tie.spec
+    (λ c κs. search needs)  -- on-tick-requires
+    returns
+    (λ c κs. search needs)  -- within-requires
+    returns-2)

@@ -6,17 +6,9 @@ use Rattle.book.proofs.Scans.{test-failed, test-passed}
 use Rattle.auction.proofs.matched.both_reach.Statement.{statement}
 use Rattle.auction.proofs.matched.both_reach.Tie as tie
 
-reaches-requires : tie.Need-reaches-requires
-reaches-requires c κs = search needs
-
-returns : tie.Need-returns
-returns c = sym (false-both _ _ (test-failed _ _ (c .before .reaches .ensures) (c .if1 .taken)))
-
-reaches-requires-2 : tie.Need-reaches-requires-2
-reaches-requires-2 c κs = search needs
-
-returns-2 : tie.Need-returns-2
-returns-2 c = c .reaches2 .ensures ∙ sym (rw (test-passed _ _ (c .before .before .reaches .ensures) (c .before .if1 .left)))
-
 pub both-reach-spec : {M : Type 1} → statement M
-both-reach-spec = tie.close (tie.spec reaches-requires returns reaches-requires-2 returns-2)
+both-reach-spec = tie.close (tie.spec
+    (λ c κs. search needs)  -- reaches-requires
+    (λ c. sym (false-both _ _ (test-failed _ _ (c .before .reaches .ensures) (c .if1 .taken))))  -- returns
+    (λ c κs. search needs)  -- reaches-requires-2
+    (λ c. c .reaches2 .ensures ∙ sym (rw (test-passed _ _ (c .before .before .reaches .ensures) (c .before .if1 .left)))))  -- returns-2

@@ -16,20 +16,9 @@ Inv-loop buys bought sells sold c price i₀ j₀ bid₀ ask₀ made₀ i j bid 
 abbrev μ-loop : tie.MeasureT-loop
 μ-loop buys bought sells sold c price i₀ j₀ bid₀ ask₀ made₀ i j bid ask made = bought - i + (sold - j)
 
-loop-holds : tie.Need-loop-holds Inv-loop μ-loop
-loop-holds c = counting _ _ _ _ _ _
-
-returns : tie.Need-returns Inv-loop μ-loop
-returns c = counted-sells (c .before .before .loop .inv) (c .if1 .taken)
-
-order-at-requires : tie.Need-order-at-requires Inv-loop μ-loop
-order-at-requires c κs = omega (arith, c .before .before .before .before .before .pre .buys-room)
-
-order-at-requires-2 : tie.Need-order-at-requires-2 Inv-loop μ-loop
-order-at-requires-2 c κs = omega (arith, c .before .before .before .before .before .before .pre .sells-room, c .before .before .before .loop .inv .sells-within)
-
-both-reach-requires : tie.Need-both-reach-requires Inv-loop μ-loop
-both-reach-requires c κs = search needs
+-- back to the start
+abbrev Begun : tie.Else1 Inv-loop μ-loop → tie.Start Inv-loop μ-loop
+Begun c = c .before .before .before .before .before
 
 -- from where the two orders are read back to the loop's head, and from there to the start
 abbrev Head : tie.After-order-at2 Inv-loop μ-loop → tie.At-loop Inv-loop μ-loop
@@ -41,7 +30,8 @@ sell-there c = omega (arith, Head c .loop .inv .sells-within, c .before .before 
 returns-2 : tie.Need-returns-2 Inv-loop μ-loop
 returns-2 c =
     let read = c .before .before in
-    counted-unmet (Head read .loop .inv) (read .before .before .before .loop-test .taken) (sell-there read) (read .before .order-at .ensures) (read .order-at2 .ensures) (sym (c .before .both-reach .ensures) ∙ not-true _ (c .if2 .taken))
+    counted-unmet (Head read .loop .inv) (read .before .before .before .loop-test .taken) (sell-there read) (read .before .order-at .ensures)
+    (read .order-at2 .ensures) (sym (c .before .both-reach .ensures) ∙ not-true _ (c .if2 .taken))
 
 add-made : tie.Need-add-made Inv-loop μ-loop
 add-made c =
@@ -63,86 +53,37 @@ meeting c =
       met = sym (c .before .both-reach .ensures) ∙ not-false _ (c .if2 .left);
     }
 
-sub-demand : tie.Need-sub-demand Inv-loop μ-loop
-sub-demand c =
-    let m = meeting (c .before) in
-    bid-lots (Head (c .before .before .before) .loop .inv) (m .buy-here) (m .buy)
-
-sub-supply : tie.Need-sub-supply Inv-loop μ-loop
-sub-supply c =
-    let m = meeting (c .before .before) in
-    ask-lots (Head (c .before .before .before .before) .loop .inv) (m .sell-here) (m .sell)
-
 -- from where both remainders are known back to the meeting
 abbrev Met : tie.After-struct-known2 Inv-loop μ-loop → tie.Else2 Inv-loop μ-loop
 Met c = c .before .before
-
-add-bid : tie.Need-add-bid Inv-loop μ-loop
-add-bid c = omega arith
-
-add-j : tie.Need-add-j Inv-loop μ-loop
-add-j c = omega (arith, meeting (Met (c .before)) .sell-here)
-
-loop-less : tie.Need-loop-less Inv-loop μ-loop
-loop-less c = omega (arith, meeting (Met (c .before)) .sell-here)
-
-loop-again : tie.Need-loop-again Inv-loop μ-loop
-loop-again c =
-    let e = Met (c .before) in
-    count-sell (Head (e .before .before) .loop .inv) (meeting e) (c .if3 .taken)
-
-add-i : tie.Need-add-i Inv-loop μ-loop
-add-i c = omega arith
-
-add-ask : tie.Need-add-ask Inv-loop μ-loop
-add-ask c = omega arith
-
-loop-less-2 : tie.Need-loop-less-2 Inv-loop μ-loop
-loop-less-2 c = omega arith
-
-loop-again-2 : tie.Need-loop-again-2 Inv-loop μ-loop
-loop-again-2 c =
-    let e = Met (c .before .before) in
-    count-buy (Head (e .before .before) .loop .inv) (meeting e) (c .if4 .taken)
-
-add-j-2 : tie.Need-add-j-2 Inv-loop μ-loop
-add-j-2 c = omega (arith, meeting (Met (c .before .before)) .sell-here)
-
-loop-less-3 : tie.Need-loop-less-3 Inv-loop μ-loop
-loop-less-3 c = omega (arith, meeting (Met (c .before .before)) .sell-here)
 
 loop-again-3 : tie.Need-loop-again-3 Inv-loop μ-loop
 loop-again-3 c =
     let e = Met (c .before .before) in
     count-both (Head (e .before .before) .loop .inv) (meeting e) (c .before .if3 .left) (c .if4 .left)
 
-returns-3 : tie.Need-returns-3 Inv-loop μ-loop
-returns-3 c = counted-buys (c .before .loop .inv) (c .loop-test .left)
-
 pub count-trades-spec : {M : Type 1} → statement M
-count-trades-spec =
-    tie.close
-    (tie.spec
+count-trades-spec = tie.close (tie.spec
     Inv-loop
     μ-loop
-    loop-holds
-    returns
-    order-at-requires
-    order-at-requires-2
-    both-reach-requires
+    (λ c. counting _ _ _ _ _ _)  -- loop-holds
+    (λ c. counted-sells (c .before .before .loop .inv) (c .if1 .taken))  -- returns
+    (λ c κs. omega (arith, Begun c .pre .buys-room))  -- order-at-requires
+    (λ c κs. omega (arith, Begun (c .before) .pre .sells-room, c .before .before .before .loop .inv .sells-within))  -- order-at-requires-2
+    (λ c κs. search needs)  -- both-reach-requires
     returns-2
     add-made
-    sub-demand
-    sub-supply
-    add-bid
-    add-j
-    loop-less
-    loop-again
-    add-i
-    add-ask
-    loop-less-2
-    loop-again-2
-    add-j-2
-    loop-less-3
+    (λ c. let m = meeting (c .before) in bid-lots (Head (c .before .before .before) .loop .inv) (m .buy-here) (m .buy))  -- sub-demand
+    (λ c. let m = meeting (c .before .before) in ask-lots (Head (c .before .before .before .before) .loop .inv) (m .sell-here) (m .sell))  -- sub-supply
+    (λ c. omega arith)  -- add-bid
+    (λ c. omega (arith, meeting (Met (c .before)) .sell-here))  -- add-j
+    (λ c. omega (arith, meeting (Met (c .before)) .sell-here))  -- loop-less
+    (λ c. let e = Met (c .before) in count-sell (Head (e .before .before) .loop .inv) (meeting e) (c .if3 .taken))  -- loop-again
+    (λ c. omega arith)  -- add-i
+    (λ c. omega arith)  -- add-ask
+    (λ c. omega arith)  -- loop-less-2
+    (λ c. let e = Met (c .before .before) in count-buy (Head (e .before .before) .loop .inv) (meeting e) (c .if4 .taken))  -- loop-again-2
+    (λ c. omega (arith, meeting (Met (c .before .before)) .sell-here))  -- add-j-2
+    (λ c. omega (arith, meeting (Met (c .before .before)) .sell-here))  -- loop-less-3
     loop-again-3
-    returns-3)
+    (λ c. counted-buys (c .before .loop .inv) (c .loop-test .left)))  -- returns-3

@@ -4,54 +4,38 @@ use Rattle.auction.proofs.Chosen.{none-matched, ready-at, queues-left}
 use Rattle.auction.proofs.matched.match_queues.Statement.{statement}
 use Rattle.auction.proofs.matched.match_queues.Tie as tie
 
-returns : tie.Need-returns
-returns c = none-matched _ (c .before .before .before .before .before .pre) _ (c .if1 .taken)
+-- back to the start
+abbrev Begun-from-met-chosen : tie.Then1 → tie.Start
+Begun-from-met-chosen c = c .before .before .before .before .before
 
-match-at-requires : tie.Need-match-at-requires
-match-at-requires c κs = ready-at _ (c .before .before .before .before .before .before .before .before .pre) (c .before .before .before .if1 .left)
+-- back to the start
+abbrev Begun : tie.After-match-at-arg3 → tie.Start
+Begun c = c .before .before .before .before .before .before .before .before
 
-wide-requires : tie.Need-wide-requires
-wide-requires c κs = search needs
+-- back to the call of `match-at`
+abbrev Match-at : tie.After-drop-front → tie.After-match-at
+Match-at c = c .before .before .before .before .before .before .before .before .before
 
-drop-front-requires : tie.Need-drop-front-requires
-drop-front-requires c κs = search needs
-
-drop-front-requires-2 : tie.Need-drop-front-requires-2
-drop-front-requires-2 c κs = search needs
-
-sub-t29 : tie.Need-sub-t29
-sub-t29 c = search needs
-
-sub-t30 : tie.Need-sub-t30
-sub-t30 c = search needs
-
-same-length : tie.Need-same-length
-same-length c = search needs
-
-same-length-2 : tie.Need-same-length-2
-same-length-2 c = search needs
-
-same-length-3 : tie.Need-same-length-3
-same-length-3 c = search needs
+-- back to the call of `drop-front`
+abbrev Drop-front : tie.After-held → tie.After-drop-front
+Drop-front c = c .before .before .before .before .before .before .before
 
 returns-2 : tie.Need-returns-2
 returns-2 c =
-    let called = c .before .before .before .before .before .before .before .before .before .before .before .before .before .before .before .before in
-    queues-left _ (called .before .before .before .before .before .before .before .before .before .pre) (called .before .before .before .before .if1 .left) (called .match-at .ensures) (c .before .before .before .before .before .before .before .before .before .wide .ensures)
-    (c .before .before .before .before .before .before .before .drop-front .ensures) (c .before .before .before .drop-front2 .ensures)
+    let called = Match-at (Drop-front c) in
+    queues-left _ (Begun (called .before) .pre) (called .before .before .before .before .if1 .left) (called .match-at .ensures) (Drop-front c .before .before .wide .ensures)
+    (Drop-front c .drop-front .ensures) (c .before .before .before .drop-front2 .ensures)
 
 pub match-queues-spec : {M : Type 1} → statement M
-match-queues-spec =
-    tie.close
-    (tie.spec
-    returns
-    match-at-requires
-    wide-requires
-    drop-front-requires
-    drop-front-requires-2
-    sub-t29
-    sub-t30
-    same-length
-    same-length-2
-    same-length-3
+match-queues-spec = tie.close (tie.spec
+    (λ c. none-matched _ (Begun-from-met-chosen c .pre) _ (c .if1 .taken))  -- returns
+    (λ c κs. ready-at _ (Begun c .pre) (c .before .before .before .if1 .left))  -- match-at-requires
+    (λ c κs. search needs)  -- wide-requires
+    (λ c κs. search needs)  -- drop-front-requires
+    (λ c κs. search needs)  -- drop-front-requires-2
+    (λ c. search needs)  -- sub-t29
+    (λ c. search needs)  -- sub-t30
+    (λ c. search needs)  -- same-length
+    (λ c. search needs)  -- same-length-2
+    (λ c. search needs)  -- same-length-3
     returns-2)

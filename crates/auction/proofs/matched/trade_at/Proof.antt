@@ -4,12 +4,11 @@ use Rattle.rules.specs.Auction.{tradeAt}
 use Rattle.auction.proofs.matched.trade_at.Statement.{statement}
 use Rattle.auction.proofs.matched.trade_at.Tie as tie
 
-smaller-requires : tie.Need-smaller-requires
-smaller-requires c κs = search needs
-
 returns : tie.Need-returns
 unfolding tradeAt
 returns c = rw (c .smaller .ensures)
 
 pub trade-at-spec : {M : Type 1} → statement M
-trade-at-spec = tie.close (tie.spec smaller-requires returns)
+trade-at-spec = tie.close (tie.spec
+    (λ c κs. search needs)  -- smaller-requires
+    returns)

@@ -18,43 +18,24 @@ Inv-loop area count buys bought sells sold c last chosen₀ i₀ chosen i =
 abbrev μ-loop : tie.MeasureT-loop
 μ-loop area count buys bought sells sold c last chosen₀ i₀ chosen i = count - i
 
-loop-holds : tie.Need-loop-holds Inv-loop μ-loop
-loop-holds c = record { within = omega arith; is = c .before .before .before .pre .2; so-far = refl }
-
-order-at-requires : tie.Need-order-at-requires Inv-loop μ-loop
-order-at-requires c κs = search needs
-
-level-at-requires : tie.Need-level-at-requires Inv-loop μ-loop
-level-at-requires c κs = c .before .before .before .before .before .before .pre .0
-
-better-of-requires : tie.Need-better-of-requires Inv-loop μ-loop
-better-of-requires c κs = search needs
-
-add-i : tie.Need-add-i Inv-loop μ-loop
-add-i c = omega arith
-
-loop-less : tie.Need-loop-less Inv-loop μ-loop
-loop-less c = omega arith
+-- back to the start
+abbrev Begun : tie.After-order-at Inv-loop μ-loop → tie.Start Inv-loop μ-loop
+Begun c = c .before .before .before .before .before .before
 
 loop-again : tie.Need-loop-again Inv-loop μ-loop
 loop-again c =
     let read = c .before .before in
     search-on (read .before .before .loop .inv) (read .before .loop-test .taken) (read .order-at .ensures) (c .before .level-at .ensures) (c .better-of .ensures)
 
-returns : tie.Need-returns Inv-loop μ-loop
-returns c = search-end (c .before .loop .inv) (c .loop-test .left)
-
 pub best-among-spec : {M : Type 1} → statement M
-best-among-spec =
-    tie.close
-    (tie.spec
+best-among-spec = tie.close (tie.spec
     Inv-loop
     μ-loop
-    loop-holds
-    order-at-requires
-    level-at-requires
-    better-of-requires
-    add-i
-    loop-less
+    (λ c. record { within = omega arith; is = c .before .before .before .pre .2; so-far = refl })  -- loop-holds
+    (λ c κs. search needs)  -- order-at-requires
+    (λ c κs. Begun c .pre .0)  -- level-at-requires
+    (λ c κs. search needs)  -- better-of-requires
+    (λ c. omega arith)  -- add-i
+    (λ c. omega arith)  -- loop-less
     loop-again
-    returns)
+    (λ c. search-end (c .before .loop .inv) (c .loop-test .left)))  -- returns

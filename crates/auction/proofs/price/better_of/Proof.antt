@@ -5,14 +5,8 @@ use Rattle.laws.specs.Choice.{pick-true, pick-false}
 use Rattle.auction.proofs.price.better_of.Statement.{statement}
 use Rattle.auction.proofs.price.better_of.Tie as tie
 
-is-better-requires : tie.Need-is-better-requires
-is-better-requires c κs = search needs
-
-returns : tie.Need-returns
-returns c = sym (pick-true _ _ _ (sym (c .before .is-better .ensures) ∙ c .if1 .taken))
-
-returns-2 : tie.Need-returns-2
-returns-2 c = sym (pick-false _ _ _ (sym (c .before .is-better .ensures) ∙ c .if1 .left))
-
 pub better-of-spec : {M : Type 1} → statement M
-better-of-spec = tie.close (tie.spec is-better-requires returns returns-2)
+better-of-spec = tie.close (tie.spec
+    (λ c κs. search needs)  -- is-better-requires
+    (λ c. sym (pick-true _ _ _ (sym (c .before .is-better .ensures) ∙ c .if1 .taken)))  -- returns
+    (λ c. sym (pick-false _ _ _ (sym (c .before .is-better .ensures) ∙ c .if1 .left))))  -- returns-2

@@ -24,44 +24,27 @@ abbrev μ-loop : tie.MeasureT-loop
 few : (c : tie.After-lots-of Inv-loop μ-loop) → c .lots-of .result ≤ c .before .order-at .result .lots
 few c = reaching-within _ _ _ _ (c .lots-of .ensures)
 
-loop-holds : tie.Need-loop-holds Inv-loop μ-loop
-loop-holds c = (omega arith, (omega arith, zero-add _))
-
-order-at-requires : tie.Need-order-at-requires Inv-loop μ-loop
-order-at-requires c κs = omega arith
-
-lots-of-requires : tie.Need-lots-of-requires Inv-loop μ-loop
-lots-of-requires c κs = search needs
-
-add-lots : tie.Need-add-lots Inv-loop μ-loop
-add-lots c = omega (arith, few c)
-
-add-i : tie.Need-add-i Inv-loop μ-loop
-add-i c = omega arith
-
-loop-less : tie.Need-loop-less Inv-loop μ-loop
-loop-less c = omega arith
-
 loop-again : tie.Need-loop-again Inv-loop μ-loop
 loop-again c =
     let read = c .before in
-    let at = read .before .before in
-    (omega arith, (omega (arith, few c), tally-on (lotsReaching _ _) _ _ _ _ _ _ (at .loop .inv .1 .1) _ (read .before .loop-test .taken) (read .order-at .ensures) (lotsReaching _ _) _ (reaching-on _ _ _ _ (c .lots-of .ensures))))
-
-returns : tie.Need-returns Inv-loop μ-loop
-returns c = tally-end (lotsReaching _ _) _ _ _ _ _ _ (c .before .loop .inv .1 .1) (c .loop-test .left) (reaching-nil _ _)
+    let at = read .before .before in (
+      omega arith,
+      (
+        omega (arith, few c),
+        tally-on (lotsReaching _ _) _ _ _ _ _ _ (at .loop .inv .1 .1) _ (read .before .loop-test .taken)
+            (read .order-at .ensures) (lotsReaching _ _) _ (reaching-on _ _ _ _ (c .lots-of .ensures)),
+      ),
+    )
 
 pub lots-reaching-spec : {M : Type 1} → statement M
-lots-reaching-spec =
-    tie.close
-    (tie.spec
+lots-reaching-spec = tie.close (tie.spec
     Inv-loop
     μ-loop
-    loop-holds
-    order-at-requires
-    lots-of-requires
-    add-lots
-    add-i
-    loop-less
+    (λ c. (omega arith, (omega arith, zero-add _)))  -- loop-holds
+    (λ c κs. omega arith)  -- order-at-requires
+    (λ c κs. search needs)  -- lots-of-requires
+    (λ c. omega (arith, few c))  -- add-lots
+    (λ c. omega arith)  -- add-i
+    (λ c. omega arith)  -- loop-less
     loop-again
-    returns)
+    (λ c. tally-end (lotsReaching _ _) _ _ _ _ _ _ (c .before .loop .inv .1 .1) (c .loop-test .left) (reaching-nil _ _)))  -- returns

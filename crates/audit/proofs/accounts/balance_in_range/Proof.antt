@@ -19,19 +19,23 @@ cast-limit c = omega (arith, c .wide64 .ensures)
 
 returns : tie.Need-returns
 returns c =
-    balance-high (c .before .before .before .args .settlements) (c .before .before .wide64 .ensures) (c .before .before .before .pre) (c .before .before .before .args .a) (record { sfits = c .before .struct-told .given .0 .1 }) (c .if1 .taken)
+    balance-high (c .before .before .before .args .settlements) (c .before .before .wide64 .ensures) (c .before .before .before .pre)
+    (c .before .before .before .args .a) (record { sfits = c .before .struct-told .given .0 .1 }) (c .if1 .taken)
 
 sub-if2 : tie.Need-sub-if2
 sub-if2 c =
-    low-fits (c .before .before .before .args .settlements) (c .before .before .wide64 .ensures) (c .before .before .before .pre) (c .before .before .before .args .a) (record { sfits = c .before .struct-told .given .0 .1 })
+    low-fits (c .before .before .before .args .settlements) (c .before .before .wide64 .ensures) (c .before .before .before .pre)
+    (c .before .before .before .args .a) (record { sfits = c .before .struct-told .given .0 .1 })
 
 returns-2 : tie.Need-returns-2
 returns-2 c =
-    balance-low (c .before .before .before .before .args .settlements) (c .before .before .before .wide64 .ensures) (c .before .before .before .before .pre) (c .before .before .before .before .args .a) (record { sfits = c .before .before .struct-told .given .0 .1 }) (c .if2 .taken)
+    balance-low (c .before .before .before .before .args .settlements) (c .before .before .before .wide64 .ensures) (c .before .before .before .before .pre)
+    (c .before .before .before .before .args .a) (record { sfits = c .before .before .struct-told .given .0 .1 }) (c .if2 .taken)
 
 returns-3 : tie.Need-returns-3
 returns-3 c =
-    balance-within (c .before .before .before .before .args .settlements) (c .before .before .before .wide64 .ensures) (c .before .before .before .before .pre) (c .before .before .before .before .args .a) (record { sfits = c .before .before .struct-told .given .0 .1 }) (c .before .if1 .left) (c .if2 .left)
+    balance-within (c .before .before .before .before .args .settlements) (c .before .before .before .wide64 .ensures) (c .before .before .before .before .pre)
+    (c .before .before .before .before .args .a) (record { sfits = c .before .before .struct-told .given .0 .1 }) (c .before .if1 .left) (c .if2 .left)
 
 pub balance-in-range-spec : {M : Type 1} → statement M
 balance-in-range-spec =

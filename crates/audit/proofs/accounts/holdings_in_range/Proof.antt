@@ -20,8 +20,9 @@ Inv-loop state buys sells contracts c₀ c =
 abbrev μ-loop : tie.MeasureT-loop
 μ-loop state buys sells contracts c₀ c = contracts - c
 
-loop-holds : tie.Need-loop-holds Inv-loop μ-loop
-loop-holds c = (omega arith, all-none _)
+-- back to the start
+abbrev Begun : tie.Then1 Inv-loop μ-loop → tie.Start Inv-loop μ-loop
+Begun c = c .before .before .before .before .before .before
 
 held-in-range-requires : tie.Need-held-in-range-requires Inv-loop μ-loop
 held-in-range-requires c κs =
@@ -30,34 +31,23 @@ held-in-range-requires c κs =
 
 returns : tie.Need-returns Inv-loop μ-loop
 returns c =
-    sym (all-swap (λ a c′. holdingInRange (listing (c .before .before .before .before .before .before .args .state) (c .before .before .before .before .before .before .args .buys .now) (c .before .before .before .before .before .before .args .sells .now) c′) a (holdingAt (c .before .before .before .before .before .before .args .state .accounts) a c′)) _ _
+    sym (all-swap (λ a c′. holdingInRange (listing (Begun c .args .state) (Begun c .args .buys .now) (Begun c .args .sells .now) c′) a (holdingAt (Begun c .args .state .accounts) a c′)) _ _
     ∙ all-stop _ _ _ (c .before .before .loop-test .taken) (refused (c .before .held-in-range .ensures) (c .if1 .taken)))
-
-add-c : tie.Need-add-c Inv-loop μ-loop
-add-c c = omega arith
-
-loop-less : tie.Need-loop-less Inv-loop μ-loop
-loop-less c = omega arith
-
-loop-again : tie.Need-loop-again Inv-loop μ-loop
-loop-again c =
-    (omega arith, all-more _ _ (c .before .before .before .loop .inv .1) (passed (c .before .held-in-range .ensures) (c .if1 .left)))
 
 returns-2 : tie.Need-returns-2 Inv-loop μ-loop
 returns-2 c =
     all-end _ (c .before .loop .inv .1) (c .before .loop .inv .0) (c .loop-test .left)
-    ∙ sym (all-swap (λ a c′. holdingInRange (listing (c .before .before .before .before .args .state) (c .before .before .before .before .args .buys .now) (c .before .before .before .before .args .sells .now) c′) a (holdingAt (c .before .before .before .before .args .state .accounts) a c′)) _ _)
+    ∙ sym (all-swap (λ a c′. holdingInRange (listing (c .before .before .before .before .args .state) (c .before .before .before .before .args .buys .now)
+    (c .before .before .before .before .args .sells .now) c′) a (holdingAt (c .before .before .before .before .args .state .accounts) a c′)) _ _)
 
 pub holdings-in-range-spec : {M : Type 1} → statement M
-holdings-in-range-spec =
-    tie.close
-    (tie.spec
+holdings-in-range-spec = tie.close (tie.spec
     Inv-loop
     μ-loop
-    loop-holds
+    (λ c. (omega arith, all-none _))  -- loop-holds
     held-in-range-requires
     returns
-    add-c
-    loop-less
-    loop-again
+    (λ c. omega arith)  -- add-c
+    (λ c. omega arith)  -- loop-less
+    (λ c. (omega arith, all-more _ _ (c .before .before .before .loop .inv .1) (passed (c .before .held-in-range .ensures) (c .if1 .left))))  -- loop-again
     returns-2)

@@ -18,53 +18,37 @@ Inv-loop accounts list a₀ a = (a ≤ accounts) × Each (allOf markInRange (tak
 abbrev μ-loop : tie.MeasureT-loop
 μ-loop accounts list a₀ a = accounts - a
 
+-- back to the start
+abbrev Begun : tie.In-loop Inv-loop μ-loop → tie.Start Inv-loop μ-loop
+Begun c = c .before .before
+
 -- the accounts lie within the array
 room : (c : tie.Start Inv-loop μ-loop) → c .args .accounts ≤ length (c .args .t1)
 room c =
     let e : length (c .args .t1) ≡ 32 = search needs in
     omega (arith, c .pre)
 
-loop-holds : tie.Need-loop-holds Inv-loop μ-loop
-loop-holds c = (omega arith, record { rest = refl })
-
-mul-who : tie.Need-mul-who Inv-loop μ-loop
-mul-who c = omega arith
-
-array-copy-out-who : tie.Need-array-copy-out-who Inv-loop μ-loop
-array-copy-out-who c = omega arith
-
 returns : tie.Need-returns Inv-loop μ-loop
 unfolding markInRange
 returns c =
-    let s = c .before .before .before .before .before in
+    let s = Begun (c .before .before .before) in
     each-out (c .before .before .before .before .loop .inv .1) (next-in _ (s .args .t1) _ noAccount (c .before .before .before .loop-test .taken) (room s)) (lt-leb _ _ (c .if1 .taken))
-
-add-a : tie.Need-add-a Inv-loop μ-loop
-add-a c = omega arith
-
-loop-less : tie.Need-loop-less Inv-loop μ-loop
-loop-less c = omega arith
 
 loop-again : tie.Need-loop-again Inv-loop μ-loop
 unfolding markInRange
 loop-again c =
-    let s = c .before .before .before .before .before in
+    let s = Begun (c .before .before .before) in
     (omega arith, each-turn (c .before .before .before .before .loop .inv .1) (next-in _ (s .args .t1) _ noAccount (c .before .before .before .loop-test .taken) (room s)) (le-leb _ _ (c .if1 .left)))
 
-returns-2 : tie.Need-returns-2 Inv-loop μ-loop
-returns-2 c = each-end (c .before .loop .inv .1) (none-in _ (c .before .before .args .t1) _ (c .loop-test .left))
-
 pub marks-in-range-spec : {M : Type 1} → statement M
-marks-in-range-spec =
-    tie.close
-    (tie.spec
+marks-in-range-spec = tie.close (tie.spec
     Inv-loop
     μ-loop
-    loop-holds
-    mul-who
-    array-copy-out-who
+    (λ c. (omega arith, record { rest = refl }))  -- loop-holds
+    (λ c. omega arith)  -- mul-who
+    (λ c. omega arith)  -- array-copy-out-who
     returns
-    add-a
-    loop-less
+    (λ c. omega arith)  -- add-a
+    (λ c. omega arith)  -- loop-less
     loop-again
-    returns-2)
+    (λ c. each-end (c .before .loop .inv .1) (none-in _ (c .before .before .args .t1) _ (c .loop-test .left))))  -- returns-2

@@ -4,11 +4,7 @@ use Rattle.audit.proofs.Limits.{limit-left, over-limit}
 use Rattle.audit.proofs.accounts.opens_keep_limit.Statement.{statement}
 use Rattle.audit.proofs.accounts.opens_keep_limit.Tie as tie
 
-returns : tie.Need-returns
-returns c = over-limit _ _ _ (c .if1 .taken)
-
-returns-2 : tie.Need-returns-2
-returns-2 c = limit-left _ _ (c .if1 .left) refl refl
-
 pub opens-keep-limit-spec : {M : Type 1} → statement M
-opens-keep-limit-spec = tie.close (tie.spec returns returns-2)
+opens-keep-limit-spec = tie.close (tie.spec
+    (λ c. over-limit _ _ _ (c .if1 .taken))  -- returns
+    (λ c. limit-left _ _ (c .if1 .left) refl refl))  -- returns-2

@@ -23,6 +23,10 @@ Inv-loop state buys sells word contracts listed₀ c₀ listed c =
 abbrev μ-loop : tie.MeasureT-loop
 μ-loop state buys sells word contracts listed₀ c₀ listed c = contracts - c
 
+-- back to the start
+abbrev Begun : tie.After-with-listing Inv-loop μ-loop → tie.Start Inv-loop μ-loop
+Begun c = c .before .before .before .before .before
+
 loop-holds : tie.Need-loop-holds Inv-loop μ-loop
 loop-holds c = (omega arith, omega arith, listed-none _ _)
 
@@ -32,7 +36,7 @@ with-listing-requires c κs = (c .before .loop .inv .1, c .before .before .befor
 -- a contract adds its two queues at most
 more : (c : tie.After-with-listing Inv-loop μ-loop) → c .with-listing .result .count ≤ c .before .before .loop .listed .count + 2 * maxResting
 unfolding listingIn
-more c = few-more _ _ _ _ _ _ (c .with-listing .ensures) (few-buys (c .before .before .before .before .before .pre .0) (c .before .loop-test .taken)) (few-sells (c .before .before .before .before .before .pre .0) (c .before .loop-test .taken))
+more c = few-more _ _ _ _ _ _ (c .with-listing .ensures) (few-buys (Begun c .pre .0) (c .before .loop-test .taken)) (few-sells (Begun c .pre .0) (c .before .loop-test .taken))
 
 add-c : tie.Need-add-c Inv-loop μ-loop
 add-c c = omega arith
@@ -45,8 +49,10 @@ loop-again c =
     (omega arith, omega (arith, more c), listed-more _ _ _ (c .with-listing .ensures) (c .before .before .loop .inv .2))
 
 returns : tie.Need-returns Inv-loop μ-loop
-returns c =
-    (omega (arith, c .before .loop .inv .1, c .before .loop .inv .0, counts-ok _ (c .before .before .before .before .pre .0 .counts) .contracts-high), listed-end _ _ _ _ (c .before .loop .inv .2) (c .before .loop .inv .0) (c .loop-test .left))
+returns c = (
+  omega (arith, c .before .loop .inv .1, c .before .loop .inv .0, counts-ok _ (c .before .before .before .before .pre .0 .counts) .contracts-high),
+  listed-end _ _ _ _ (c .before .loop .inv .2) (c .before .loop .inv .0) (c .loop-test .left),
+)
 
 pub all-listed-spec : {M : Type 1} → statement M
 all-listed-spec =

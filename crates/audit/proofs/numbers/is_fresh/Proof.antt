@@ -18,56 +18,32 @@ Inv-loop list count at number i₀ i =
 abbrev μ-loop : tie.MeasureT-loop
 μ-loop list count at number i₀ i = count - i
 
-mul-number : tie.Need-mul-number Inv-loop μ-loop
-mul-number c = omega arith
-
-shared-slice-read-number : tie.Need-shared-slice-read-number Inv-loop μ-loop
-shared-slice-read-number c = omega arith
-
-add-i : tie.Need-add-i Inv-loop μ-loop
-add-i c = omega arith
-
-loop-holds : tie.Need-loop-holds Inv-loop μ-loop
-loop-holds c = (omega arith, record { rest = refl })
-
-mul-if1 : tie.Need-mul-if1 Inv-loop μ-loop
-mul-if1 c = omega arith
-
-shared-slice-read-if1 : tie.Need-shared-slice-read-if1 Inv-loop μ-loop
-shared-slice-read-if1 c = omega arith
+-- back to the start
+abbrev Begun : tie.In-loop Inv-loop μ-loop → tie.Start Inv-loop μ-loop
+Begun c = c .before .before .before
 
 returns : tie.Need-returns Inv-loop μ-loop
 returns c =
-    each-out (c .before .before .before .loop .inv .1) (next-in _ (c .before .before .before .before .before .args .list .now) _ 0 (c .before .before .loop-test .taken) (c .before .before .before .before .before .pre .1)) (same-number (c .if1 .taken))
-
-add-i-2 : tie.Need-add-i-2 Inv-loop μ-loop
-add-i-2 c = omega arith
-
-loop-less : tie.Need-loop-less Inv-loop μ-loop
-loop-less c = omega arith
+    let start = Begun (c .before .before) in
+    each-out (c .before .before .before .loop .inv .1) (next-in _ (start .args .list .now) _ 0 (c .before .before .loop-test .taken) (start .pre .1)) (same-number (c .if1 .taken))
 
 loop-again : tie.Need-loop-again Inv-loop μ-loop
 loop-again c =
-    (omega arith, each-turn (c .before .before .before .loop .inv .1) (next-in _ (c .before .before .before .before .before .args .list .now) _ 0 (c .before .before .loop-test .taken) (c .before .before .before .before .before .pre .1)) (other-number (c .if1 .left)))
-
-returns-2 : tie.Need-returns-2 Inv-loop μ-loop
-returns-2 c =
-    each-end (c .before .loop .inv .1) (none-in _ (c .before .before .before .args .list .now) _ (c .loop-test .left))
+    let start = Begun (c .before .before) in
+    (omega arith, each-turn (c .before .before .before .loop .inv .1) (next-in _ (start .args .list .now) _ 0 (c .before .before .loop-test .taken) (start .pre .1)) (other-number (c .if1 .left)))
 
 pub is-fresh-spec : {M : Type 1} → statement M
-is-fresh-spec =
-    tie.close
-    (tie.spec
+is-fresh-spec = tie.close (tie.spec
     Inv-loop
     μ-loop
-    mul-number
-    shared-slice-read-number
-    add-i
-    loop-holds
-    mul-if1
-    shared-slice-read-if1
+    (λ c. omega arith)  -- mul-number
+    (λ c. omega arith)  -- shared-slice-read-number
+    (λ c. omega arith)  -- add-i
+    (λ c. (omega arith, record { rest = refl }))  -- loop-holds
+    (λ c. omega arith)  -- mul-if1
+    (λ c. omega arith)  -- shared-slice-read-if1
     returns
-    add-i-2
-    loop-less
+    (λ c. omega arith)  -- add-i-2
+    (λ c. omega arith)  -- loop-less
     loop-again
-    returns-2)
+    (λ c. each-end (c .before .loop .inv .1) (none-in _ (c .before .before .before .args .list .now) _ (c .loop-test .left))))  -- returns-2

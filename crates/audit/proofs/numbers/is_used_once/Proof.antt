@@ -16,67 +16,49 @@ Inv-loop list count marks₀ left₀ marks left = (left ≤ count) × Marked lis
 abbrev μ-loop : tie.MeasureT-loop
 μ-loop list count marks₀ left₀ marks left = left
 
-loop-holds : tie.Need-loop-holds Inv-loop μ-loop
-loop-holds c = (omega arith, marked-none _ _)
+-- back to the start
+abbrev Begun : tie.Else1 Inv-loop μ-loop → tie.Start Inv-loop μ-loop
+Begun c = c .before .before .before .before .before .before
 
-sub-at : tie.Need-sub-at Inv-loop μ-loop
-sub-at c = omega arith
-
-mul-wide : tie.Need-mul-wide Inv-loop μ-loop
-mul-wide c = omega arith
-
-shared-slice-read-wide : tie.Need-shared-slice-read-wide Inv-loop μ-loop
-shared-slice-read-wide c = omega arith
-
-wide-requires : tie.Need-wide-requires Inv-loop μ-loop
-wide-requires c κs = search needs
-
-array-read-if1 : tie.Need-array-read-if1 Inv-loop μ-loop
-array-read-if1 c = omega (arith, mod-lt (c .wide .result) {m = 4_096} (omega arith))
-
-is-fresh-requires : tie.Need-is-fresh-requires Inv-loop μ-loop
-is-fresh-requires c κs = (omega arith, c .before .before .before .before .before .before .pre)
+-- back to the loop's head
+abbrev Head : tie.Then1 Inv-loop μ-loop → tie.At-loop Inv-loop μ-loop
+Head c = c .before .before .before .before
 
 returns : tie.Need-returns Inv-loop μ-loop
-returns c = marked-again (c .before .before .before .before .before .before .before .before .pre) (c .before .before .before .before .before .before .loop .inv .1) (c .before .before .before .before .before .before .loop .left - 1) (omega arith) (c .before .before .before .before .before .before .loop .inv .0) (refused (c .before .is-fresh .ensures) (c .if2 .taken))
-
-loop-less : tie.Need-loop-less Inv-loop μ-loop
-loop-less c = omega arith
+returns c =
+    let head = Head (c .before .before) in
+    marked-again (head .before .before .pre) (head .loop .inv .1) (head .loop .left - 1) (omega arith) (head .loop .inv .0) (refused (c .before .is-fresh .ensures) (c .if2 .taken))
 
 loop-again : tie.Need-loop-again Inv-loop μ-loop
 loop-again c =
-    (omega arith, marked-fresh (c .before .before .before .before .before .before .before .before .pre) (c .before .before .before .before .before .before .loop .inv .1) (c .before .before .before .before .before .before .loop .left - 1) (omega arith) (c .before .before .before .before .before .before .loop .inv .0) (ap (λ (k : ℕ). k % 4_096) (c .before .before .before .wide .ensures)) (c .before .before .if1 .taken) (passed (c .before .is-fresh .ensures) (c .if2 .left)))
-
-array-write-marks : tie.Need-array-write-marks Inv-loop μ-loop
-array-write-marks c = omega (arith, mod-lt (c .before .wide .result) {m = 4_096} (omega arith))
-
-loop-less-2 : tie.Need-loop-less-2 Inv-loop μ-loop
-loop-less-2 c = omega arith
+    let head = Head (c .before .before) in (
+      omega arith,
+      marked-fresh (head .before .before .pre) (head .loop .inv .1) (head .loop .left - 1) (omega arith) (head .loop .inv .0)
+          (ap (λ (k : ℕ). k % 4_096) (c .before .before .before .wide .ensures)) (c .before .before .if1 .taken) (passed (c .before .is-fresh .ensures) (c .if2 .left)),
+    )
 
 loop-again-2 : tie.Need-loop-again-2 Inv-loop μ-loop
-loop-again-2 c =
-    (omega arith, marked-new (c .before .before .before .before .before .before .pre) (c .before .before .before .before .loop .inv .1) (c .before .before .before .before .loop .left - 1) (omega arith) (c .before .before .before .before .loop .inv .0) (ap (λ (k : ℕ). k % 4_096) (c .before .wide .ensures)) (c .if1 .left))
-
-returns-2 : tie.Need-returns-2 Inv-loop μ-loop
-returns-2 c = marked-all (c .before .loop .inv .1) (omega arith)
+loop-again-2 c = (
+  omega arith,
+  marked-new (Begun c .pre) (c .before .before .before .before .loop .inv .1) (c .before .before .before .before .loop .left - 1)
+      (omega arith) (c .before .before .before .before .loop .inv .0) (ap (λ (k : ℕ). k % 4_096) (c .before .wide .ensures)) (c .if1 .left),
+)
 
 pub is-used-once-spec : {M : Type 1} → statement M
-is-used-once-spec =
-    tie.close
-    (tie.spec
+is-used-once-spec = tie.close (tie.spec
     Inv-loop
     μ-loop
-    loop-holds
-    sub-at
-    mul-wide
-    shared-slice-read-wide
-    wide-requires
-    array-read-if1
-    is-fresh-requires
+    (λ c. (omega arith, marked-none _ _))  -- loop-holds
+    (λ c. omega arith)  -- sub-at
+    (λ c. omega arith)  -- mul-wide
+    (λ c. omega arith)  -- shared-slice-read-wide
+    (λ c κs. search needs)  -- wide-requires
+    (λ c. omega (arith, mod-lt (c .wide .result) {m = 4_096} (omega arith)))  -- array-read-if1
+    (λ c κs. (omega arith, Head c .before .before .pre))  -- is-fresh-requires
     returns
-    loop-less
+    (λ c. omega arith)  -- loop-less
     loop-again
-    array-write-marks
-    loop-less-2
+    (λ c. omega (arith, mod-lt (c .before .wide .result) {m = 4_096} (omega arith)))  -- array-write-marks
+    (λ c. omega arith)  -- loop-less-2
     loop-again-2
-    returns-2)
+    (λ c. marked-all (c .before .loop .inv .1) (omega arith)))  -- returns-2

@@ -23,7 +23,11 @@ tick-multiple-requires c κs =
 
 returns-3 : tie.Need-returns-3
 returns-3 c =
-    c .tick-multiple .ensures ∙ last (contract-chain _) (passed (c .before .before .before .before .terms-in-range .ensures) (c .before .before .before .if1 .left), (le-leb _ _ (c .before .if2 .left), tt))
+    c .tick-multiple .ensures ∙ last (contract-chain _) (
+      passed (c .before .before .before .before .terms-in-range .ensures)
+          (c .before .before .before .if1 .left),
+      (le-leb _ _ (c .before .if2 .left), tt),
+    )
 
 pub contract-in-range-spec : {M : Type 1} → statement M
 contract-in-range-spec =

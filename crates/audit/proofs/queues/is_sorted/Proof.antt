@@ -18,55 +18,34 @@ Inv-loop area c count sell i₀ i =
 abbrev μ-loop : tie.MeasureT-loop
 μ-loop area c count sell i₀ i = count - i
 
-loop-holds : tie.Need-loop-holds Inv-loop μ-loop
-loop-holds c = (omega arith, refl)
-
-add-loop : tie.Need-add-loop Inv-loop μ-loop
-add-loop c = omega arith
-
-order-at-requires : tie.Need-order-at-requires Inv-loop μ-loop
-order-at-requires c κs = omega arith
-
-add-order-at : tie.Need-add-order-at Inv-loop μ-loop
-add-order-at c = omega arith
-
-order-at-requires-2 : tie.Need-order-at-requires-2 Inv-loop μ-loop
-order-at-requires-2 c κs = omega arith
-
-is-ahead-requires : tie.Need-is-ahead-requires Inv-loop μ-loop
-is-ahead-requires c κs = search needs
+-- back to the loop's head
+abbrev Head : tie.After-is-ahead Inv-loop μ-loop → tie.At-loop Inv-loop μ-loop
+Head c = c .before .before .before .before
 
 returns : tie.Need-returns Inv-loop μ-loop
 returns c =
-    sorted-out _ _ _ _ _ (c .before .before .before .before .before .loop .inv .1) (c .before .before .before .before .loop-test .taken) (c .before .before .before .order-at .ensures) (c .before .before .order-at2 .ensures) (refused (c .before .is-ahead .ensures) (c .if1 .taken))
-
-add-i : tie.Need-add-i Inv-loop μ-loop
-add-i c = omega arith
-
-loop-less : tie.Need-loop-less Inv-loop μ-loop
-loop-less c = omega arith
+    sorted-out _ _ _ _ _ (Head (c .before) .loop .inv .1) (c .before .before .before .before .loop-test .taken) (c .before .before .before .order-at .ensures)
+    (c .before .before .order-at2 .ensures) (refused (c .before .is-ahead .ensures) (c .if1 .taken))
 
 loop-again : tie.Need-loop-again Inv-loop μ-loop
-loop-again c =
-    (omega arith, sorted-turn _ _ _ _ _ (c .before .before .before .before .before .loop .inv .1) (c .before .before .before .before .loop-test .taken) (c .before .before .before .order-at .ensures) (c .before .before .order-at2 .ensures) (passed (c .before .is-ahead .ensures) (c .if1 .left)))
-
-returns-2 : tie.Need-returns-2 Inv-loop μ-loop
-returns-2 c = sorted-end _ _ _ _ _ (c .before .loop .inv .1) (c .loop-test .left)
+loop-again c = (
+  omega arith,
+  sorted-turn _ _ _ _ _ (Head (c .before) .loop .inv .1) (c .before .before .before .before .loop-test .taken)
+      (c .before .before .before .order-at .ensures) (c .before .before .order-at2 .ensures) (passed (c .before .is-ahead .ensures) (c .if1 .left)),
+)
 
 pub is-sorted-spec : {M : Type 1} → statement M
-is-sorted-spec =
-    tie.close
-    (tie.spec
+is-sorted-spec = tie.close (tie.spec
     Inv-loop
     μ-loop
-    loop-holds
-    add-loop
-    order-at-requires
-    add-order-at
-    order-at-requires-2
-    is-ahead-requires
+    (λ c. (omega arith, refl))  -- loop-holds
+    (λ c. omega arith)  -- add-loop
+    (λ c κs. omega arith)  -- order-at-requires
+    (λ c. omega arith)  -- add-order-at
+    (λ c κs. omega arith)  -- order-at-requires-2
+    (λ c κs. search needs)  -- is-ahead-requires
     returns
-    add-i
-    loop-less
+    (λ c. omega arith)  -- add-i
+    (λ c. omega arith)  -- loop-less
     loop-again
-    returns-2)
+    (λ c. sorted-end _ _ _ _ _ (c .before .loop .inv .1) (c .loop-test .left)))  -- returns-2

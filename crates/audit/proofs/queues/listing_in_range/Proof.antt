@@ -9,27 +9,25 @@ use Rattle.audit.proofs.Rooms.{buys-room, contract-in, sells-room}
 use Rattle.audit.proofs.queues.listing_in_range.Statement.{statement}
 use Rattle.audit.proofs.queues.listing_in_range.Tie as tie
 
-mul-contract : tie.Need-mul-contract
-mul-contract c = search needs
+-- back to the start
+abbrev Begun-from-past-contract-in-range : tie.Else1 → tie.Start
+Begun-from-past-contract-in-range c = c .before .before .before .before .before .before .before
 
-element-copy-out-contract : tie.Need-element-copy-out-contract
-element-copy-out-contract c = contract-in (c .before .before .pre .0) (c .before .before .pre .1)
+-- back to the start
+abbrev Begun : tie.Else2 → tie.Start
+Begun c = c .before .before .before .before .before .before .before .before .before
 
-mul-buycount : tie.Need-mul-buycount
-mul-buycount c = search needs
+-- back to the call of `is-sorted`
+abbrev Is-sorted : tie.Else5 → tie.After-is-sorted
+Is-sorted c = c .before .before .before .before .before .before .before
 
-element-copy-out-buycount : tie.Need-element-copy-out-buycount
-element-copy-out-buycount c = contract-in (c .before .before .before .pre .0) (c .before .before .before .pre .1)
+-- back to the call of `is-sorted2`
+abbrev Is-sorted2 : tie.Else4 → tie.After-is-sorted2
+Is-sorted2 c = c .before .before .before
 
-mul-sellcount : tie.Need-mul-sellcount
-mul-sellcount c = search needs
-
-element-copy-out-sellcount : tie.Need-element-copy-out-sellcount
-element-copy-out-sellcount c =
-    contract-in (c .before .before .before .before .pre .0) (c .before .before .before .before .pre .1)
-
-contract-in-range-requires : tie.Need-contract-in-range-requires
-contract-in-range-requires c κs = search needs
+-- back to the test `!is_sorted(sells, c, sellcount, true)`
+abbrev Past-is-sorted : tie.After-orders-in-range2 → tie.Else3
+Past-is-sorted c = c .before .before .before .before .before
 
 returns : tie.Need-returns
 unfolding listingIn
@@ -38,15 +36,12 @@ returns c =
 
 is-sorted-requires : tie.Need-is-sorted-requires
 is-sorted-requires c κs =
-    buys-room (c .before .before .before .before .before .before .before .pre .0) (c .before .before .before .before .before .before .before .pre .1)
+    let begun-from-past-contract-in-range = Begun-from-past-contract-in-range c in
+    buys-room (begun-from-past-contract-in-range .pre .0) (begun-from-past-contract-in-range .pre .1)
 
 returns-2 : tie.Need-returns-2
 unfolding listingIn
 returns-2 c = fails (listing-chain _ _ _ _) 1 (refused (c .before .is-sorted .ensures) (c .if2 .taken))
-
-is-sorted-requires-2 : tie.Need-is-sorted-requires-2
-is-sorted-requires-2 c κs =
-    sells-room (c .before .before .before .before .before .before .before .before .before .pre .0) (c .before .before .before .before .before .before .before .before .before .pre .1)
 
 returns-3 : tie.Need-returns-3
 unfolding listingIn
@@ -54,7 +49,8 @@ returns-3 c = fails (listing-chain _ _ _ _) 2 (refused (c .before .is-sorted2 .e
 
 is-apart-requires : tie.Need-is-apart-requires
 is-apart-requires c κs =
-    (buys-room (c .before .before .before .before .before .before .before .before .before .before .before .pre .0) (c .before .before .before .before .before .before .before .before .before .before .before .pre .1), sells-room (c .before .before .before .before .before .before .before .before .before .before .before .pre .0) (c .before .before .before .before .before .before .before .before .before .before .before .pre .1))
+    let start = Begun (c .before .before) in
+    (buys-room (start .pre .0) (start .pre .1), sells-room (start .pre .0) (start .pre .1))
 
 returns-4 : tie.Need-returns-4
 unfolding listingIn
@@ -62,7 +58,8 @@ returns-4 c = fails (listing-chain _ _ _ _) 3 (refused (c .before .is-apart .ens
 
 orders-in-range-requires : tie.Need-orders-in-range-requires
 orders-in-range-requires c κs =
-    (buys-room (c .before .before .before .before .before .before .before .before .before .before .before .before .before .pre .0) (c .before .before .before .before .before .before .before .before .before .before .before .before .before .pre .1), terms-passed _ (passed (c .before .before .before .before .before .before .before .contract-in-range .ensures) (c .before .before .before .before .before .before .if1 .left)))
+    let start = Begun (Is-sorted2 c .before) in
+    (buys-room (start .pre .0) (start .pre .1), terms-passed _ (passed (Is-sorted2 c .before .before .before .before .contract-in-range .ensures) (Is-sorted2 c .before .before .before .if1 .left)))
 
 returns-5 : tie.Need-returns-5
 unfolding listingIn
@@ -71,35 +68,39 @@ returns-5 c =
 
 orders-in-range-requires-2 : tie.Need-orders-in-range-requires-2
 orders-in-range-requires-2 c κs =
-    (sells-room (c .before .before .before .before .before .before .before .before .before .before .before .before .before .before .before .pre .0) (c .before .before .before .before .before .before .before .before .before .before .before .before .before .before .before .pre .1), terms-passed _ (passed (c .before .before .before .before .before .before .before .before .before .contract-in-range .ensures) (c .before .before .before .before .before .before .before .before .if1 .left)))
+    let begun-from-past-contract-in-range = Begun-from-past-contract-in-range (Is-sorted c .before) in (
+      sells-room (begun-from-past-contract-in-range .pre .0) (begun-from-past-contract-in-range .pre .1),
+      terms-passed _
+          (passed (Is-sorted c .before .before .contract-in-range .ensures) (Is-sorted c .before .if1 .left)),
+    )
 
 returns-6 : tie.Need-returns-6
 unfolding listingIn
 returns-6 c =
+    let past-is-sorted = Past-is-sorted c in
+    let is-sorted = Is-sorted (c .before) in
     c .orders-in-range2 .ensures
     ∙ last (listing-chain _ _ _ _)
-    (passed (c .before .before .before .before .before .before .before .before .before .before .contract-in-range .ensures) (c .before .before .before .before .before .before .before .before .before .if1 .left)
-    and passed (c .before .before .before .before .before .before .before .before .is-sorted .ensures) (c .before .before .before .before .before .before .before .if2 .left)
-    and passed (c .before .before .before .before .before .before .is-sorted2 .ensures) (c .before .before .before .before .before .if3 .left)
+    (passed (is-sorted .before .before .contract-in-range .ensures) (is-sorted .before .if1 .left)
+    and passed (is-sorted .is-sorted .ensures) (past-is-sorted .before .before .if2 .left)
+    and passed (past-is-sorted .before .is-sorted2 .ensures) (past-is-sorted .if3 .left)
     and passed (c .before .before .before .before .is-apart .ensures) (c .before .before .before .if4 .left)
     and passed (c .before .before .orders-in-range .ensures) (c .before .if5 .left)
     and tt)
 
 pub listing-in-range-spec : {M : Type 1} → statement M
-listing-in-range-spec =
-    tie.close
-    (tie.spec
-    mul-contract
-    element-copy-out-contract
-    mul-buycount
-    element-copy-out-buycount
-    mul-sellcount
-    element-copy-out-sellcount
-    contract-in-range-requires
+listing-in-range-spec = tie.close (tie.spec
+    (λ c. search needs)  -- mul-contract
+    (λ c. contract-in (c .before .before .pre .0) (c .before .before .pre .1))  -- element-copy-out-contract
+    (λ c. search needs)  -- mul-buycount
+    (λ c. contract-in (c .before .before .before .pre .0) (c .before .before .before .pre .1))  -- element-copy-out-buycount
+    (λ c. search needs)  -- mul-sellcount
+    (λ c. contract-in (c .before .before .before .before .pre .0) (c .before .before .before .before .pre .1))  -- element-copy-out-sellcount
+    (λ c κs. search needs)  -- contract-in-range-requires
     returns
     is-sorted-requires
     returns-2
-    is-sorted-requires-2
+    (λ c κs. sells-room (Begun c .pre .0) (Begun c .pre .1))  -- is-sorted-requires-2
     returns-3
     is-apart-requires
     returns-4

@@ -18,43 +18,27 @@ Inv-loop area c count accounts next nextstamp contract i₀ i =
 abbrev μ-loop : tie.MeasureT-loop
 μ-loop area c count accounts next nextstamp contract i₀ i = count - i
 
-loop-holds : tie.Need-loop-holds Inv-loop μ-loop
-loop-holds c = (omega arith, record { rest = refl })
-
-order-at-requires : tie.Need-order-at-requires Inv-loop μ-loop
-order-at-requires c κs = omega arith
-
-order-in-range-requires : tie.Need-order-in-range-requires Inv-loop μ-loop
-order-in-range-requires c κs = c .before .before .before .before .pre .1
-
 returns : tie.Need-returns Inv-loop μ-loop
 returns c =
-    each-out (c .before .before .before .before .loop .inv .1) (next-order _ _ _ _ _ (c .before .before .before .loop-test .taken) (c .before .before .order-at .ensures)) (refused (c .before .order-in-range .ensures) (c .if1 .taken))
-
-add-i : tie.Need-add-i Inv-loop μ-loop
-add-i c = omega arith
-
-loop-less : tie.Need-loop-less Inv-loop μ-loop
-loop-less c = omega arith
+    each-out (c .before .before .before .before .loop .inv .1) (next-order _ _ _ _ _ (c .before .before .before .loop-test .taken)
+    (c .before .before .order-at .ensures)) (refused (c .before .order-in-range .ensures) (c .if1 .taken))
 
 loop-again : tie.Need-loop-again Inv-loop μ-loop
-loop-again c =
-    (omega arith, each-turn (c .before .before .before .before .loop .inv .1) (next-order _ _ _ _ _ (c .before .before .before .loop-test .taken) (c .before .before .order-at .ensures)) (passed (c .before .order-in-range .ensures) (c .if1 .left)))
-
-returns-2 : tie.Need-returns-2 Inv-loop μ-loop
-returns-2 c = each-end (c .before .loop .inv .1) (no-more _ _ _ _ (c .loop-test .left))
+loop-again c = (
+  omega arith,
+  each-turn (c .before .before .before .before .loop .inv .1) (next-order _ _ _ _ _ (c .before .before .before .loop-test .taken)
+      (c .before .before .order-at .ensures)) (passed (c .before .order-in-range .ensures) (c .if1 .left)),
+)
 
 pub orders-in-range-spec : {M : Type 1} → statement M
-orders-in-range-spec =
-    tie.close
-    (tie.spec
+orders-in-range-spec = tie.close (tie.spec
     Inv-loop
     μ-loop
-    loop-holds
-    order-at-requires
-    order-in-range-requires
+    (λ c. (omega arith, record { rest = refl }))  -- loop-holds
+    (λ c κs. omega arith)  -- order-at-requires
+    (λ c κs. c .before .before .before .before .pre .1)  -- order-in-range-requires
     returns
-    add-i
-    loop-less
+    (λ c. omega arith)  -- add-i
+    (λ c. omega arith)  -- loop-less
     loop-again
-    returns-2)
+    (λ c. each-end (c .before .loop .inv .1) (no-more _ _ _ _ (c .loop-test .left))))  -- returns-2

@@ -13,17 +13,9 @@ use Rattle.audit.proofs.Rooms.{buys-room, contract-in, sells-room}
 use Rattle.audit.proofs.quotes.listing_quoted.Statement.{statement}
 use Rattle.audit.proofs.quotes.listing_quoted.Tie as tie
 
-mul-buycount : tie.Need-mul-buycount
-mul-buycount c = search needs
-
-element-copy-out-buycount : tie.Need-element-copy-out-buycount
-element-copy-out-buycount c = contract-in (c .before .before .pre .0) (c .before .before .pre .1)
-
-mul-sellcount : tie.Need-mul-sellcount
-mul-sellcount c = search needs
-
-element-copy-out-sellcount : tie.Need-element-copy-out-sellcount
-element-copy-out-sellcount c = contract-in (c .before .before .before .pre .0) (c .before .before .before .pre .1)
+-- back to the start
+abbrev Begun : tie.After-queue-quoted → tie.Start
+Begun c = c .before .before .before .before .before
 
 queue-quoted-requires : tie.Need-queue-quoted-requires
 unfolding listingIn
@@ -41,7 +33,7 @@ returns c = fails (quoted-chain _ _) 0 (refused (c .before .queue-quoted .ensure
 queue-quoted-requires-2 : tie.Need-queue-quoted-requires-2
 unfolding listingIn
 queue-quoted-requires-2 c κs =
-    let s = c .before .before .before .before .before .before in (
+    let s = Begun (c .before) in (
       counts-ok _ (s .pre .0 .counts) .accounts-high,
       sells-room (s .pre .0) (s .pre .1),
       λ i l. orders-markable _ _ _ (listing (s .args .t1) (s .args .buys .now) (s .args .sells .now) (s .args .c)) (s .pre .2) true i (rw length-queue l),
@@ -52,13 +44,11 @@ unfolding listingIn
 returns-2 c = c .queue-quoted2 .ensures ∙ last (quoted-chain _ _) (passed (c .before .before .queue-quoted .ensures) (c .before .if1 .left), tt)
 
 pub listing-quoted-spec : {M : Type 1} → statement M
-listing-quoted-spec =
-    tie.close
-    (tie.spec
-    mul-buycount
-    element-copy-out-buycount
-    mul-sellcount
-    element-copy-out-sellcount
+listing-quoted-spec = tie.close (tie.spec
+    (λ c. search needs)  -- mul-buycount
+    (λ c. contract-in (c .before .before .pre .0) (c .before .before .pre .1))  -- element-copy-out-buycount
+    (λ c. search needs)  -- mul-sellcount
+    (λ c. contract-in (c .before .before .before .pre .0) (c .before .before .before .pre .1))  -- element-copy-out-sellcount
     queue-quoted-requires
     returns
     queue-quoted-requires-2

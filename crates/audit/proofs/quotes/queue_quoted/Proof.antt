@@ -23,6 +23,18 @@ Inv-loop area c count state seen₀ i₀ seen i = (i ≤ count) × Met (take (st
 abbrev μ-loop : tie.MeasureT-loop
 μ-loop area c count state seen₀ i₀ seen i = count - i
 
+-- back to the start
+abbrev Begun : tie.After-wide Inv-loop μ-loop → tie.Start Inv-loop μ-loop
+Begun c = c .before .before .before .before .before .before .before
+
+-- back to the loop's head
+abbrev Head : tie.After-order-at Inv-loop μ-loop → tie.At-loop Inv-loop μ-loop
+Head c = c .before .before
+
+-- back to the call of `wide`
+abbrev Wide : tie.Else2 Inv-loop μ-loop → tie.After-wide Inv-loop μ-loop
+Wide c = c .before .before .before
+
 -- the accounts in use
 in-use : (c : tie.Start Inv-loop μ-loop) → length (take (c .args .t1 .accountcount) (c .args .t1 .accounts)) ≡ c .args .t1 .accountcount
 in-use c =
@@ -33,119 +45,89 @@ few : (c : tie.Start Inv-loop μ-loop) → length (take (c .args .t1 .accountcou
 few c = omega (arith, in-use c, c .pre .0)
 
 -- the order met, which may have a mark
-it : (c : tie.After-order-at Inv-loop μ-loop) → getD (queueIn (c .before .before .before .before .args .area .now) (c .before .before .before .before .args .c) (c .before .before .before .before .args .count)) (c .before .before .loop .i) noOrder ≡ c .order-at .result
+it : (c : tie.After-order-at Inv-loop μ-loop)
+    → getD (queueIn (c .before .before .before .before .args .area .now) (c .before .before .before .before .args .c) (c .before .before .before .before .args .count))
+    (c .before .before .loop .i) noOrder ≡ c .order-at .result
 it c = order-at _ _ _ _ (c .before .loop-test .taken) ∙ sym (c .order-at .ensures)
 
-may : (c : tie.After-order-at Inv-loop μ-loop) → Markable (length (take (c .before .before .before .before .args .t1 .accountcount) (c .before .before .before .before .args .t1 .accounts))) (c .order-at .result)
+may : (c : tie.After-order-at Inv-loop μ-loop)
+    → Markable (length (take (c .before .before .before .before .args .t1 .accountcount) (c .before .before .before .before .args .t1 .accounts))) (c .order-at .result)
 may c =
     let m = c .before .before .before .before .pre .2 (c .before .before .loop .i) (c .before .loop-test .taken) in
-    record { account = omega (arith, m .account, ap (λ (o : Order). o .account) (it c), in-use (c .before .before .before .before)); quote = omega (arith, m .quote, ap (λ (o : Order). o .quote) (it c)) }
+    record {
+      account = omega (arith, m .account, ap (λ (o : Order). o .account) (it c), in-use (c .before .before .before .before));
+      quote = omega (arith, m .quote, ap (λ (o : Order). o .quote) (it c));
+    }
 
-there : (c : tie.After-order-at Inv-loop μ-loop) → c .before .before .loop .i < length (queueIn (c .before .before .before .before .args .area .now) (c .before .before .before .before .args .c) (c .before .before .before .before .args .count))
-there c = rw (length-queue (c .before .before .before .before .args .area .now) (c .before .before .before .before .args .c) (c .before .before .before .before .args .count)) (c .before .loop-test .taken)
+there : (c : tie.After-order-at Inv-loop μ-loop)
+    → c .before .before .loop .i < length (queueIn (c .before .before .before .before .args .area .now) (c .before .before .before .before .args .c) (c .before .before .before .before .args .count))
+there c =
+    rw (length-queue (c .before .before .before .before .args .area .now) (c .before .before .before .before .args .c) (c .before .before .before .before .args .count)) (c .before .loop-test .taken)
 
 -- its account, as it is read
 maker : (c : tie.After-wide Inv-loop μ-loop) →
-    accountAt (take (c .before .before .before .before .before .before .before .args .t1 .accountcount) (c .before .before .before .before .before .before .before .args .t1 .accounts)) (c .wide .result) .maker
-    ≡ getD (c .before .before .before .before .before .before .before .args .t1 .accounts) (c .wide .result) noAccount .maker
+    accountAt (take (Begun c .args .t1 .accountcount) (Begun c .args .t1 .accounts)) (c .wide .result) .maker
+    ≡ getD (Begun c .args .t1 .accounts) (c .wide .result) noAccount .maker
 unfolding accountAt
 maker c =
-    let s = c .before .before .before .before .before .before .before in
+    let s = Begun c in
     ap (λ (v : Account). v .maker)
     (getD-take (s .args .t1 .accountcount) (s .args .t1 .accounts) (c .wide .result) noAccount (omega (arith, may (c .before .before .before) .account, c .wide .ensures, in-use s)))
 
 -- the order met has a mark
 marked : (c : tie.After-wide Inv-loop μ-loop)
-    → let a = c .before .before .before .before .before .before .before .args in
-    MarkMet (take (a .t1 .accountcount) (a .t1 .accounts)) (queueIn (a .area .now) (a .c) (a .count)) (c .before .before .before .before .before .loop .i) (c .before .before .before .before .before .loop .seen) (c .before .before .before .order-at .result) (c .wide .result)
+    → let a = Begun c .args in
+    MarkMet (take (a .t1 .accountcount) (a .t1 .accounts)) (queueIn (a .area .now) (a .c) (a .count)) (Head (c .before .before .before) .loop .i)
+    (Head (c .before .before .before) .loop .seen) (c .before .before .before .order-at .result) (c .wide .result)
 marked c =
+    let head = Head (c .before .before .before) in
     let met = c .before .before .before in
-    record { few = few (c .before .before .before .before .before .before .before); met = c .before .before .before .before .before .loop .inv .1; there = there met; it = it met; whose = c .wide .ensures; may = may met; some = c .before .if1 .left }
+    record { few = few (Begun c); met = head .loop .inv .1; there = there met; it = it met; whose = c .wide .ensures; may = may met; some = c .before .if1 .left }
 
 -- its account is one of 32
 place : (c : tie.After-wide Inv-loop μ-loop) → c .wide .result < 32
-place c = omega (arith, may (c .before .before .before) .account, c .wide .ensures, few (c .before .before .before .before .before .before .before))
-
-loop-holds : tie.Need-loop-holds Inv-loop μ-loop
-loop-holds c = (omega arith, met-none _ (few (c .before)) _)
-
-order-at-requires : tie.Need-order-at-requires Inv-loop μ-loop
-order-at-requires c κs = omega (arith, c .before .before .before .pre .1)
-
-add-i : tie.Need-add-i Inv-loop μ-loop
-add-i c = omega arith
-
-loop-less : tie.Need-loop-less Inv-loop μ-loop
-loop-less c = omega arith
+place c = omega (arith, may (c .before .before .before) .account, c .wide .ensures, few (Begun c))
 
 loop-again : tie.Need-loop-again Inv-loop μ-loop
-loop-again c = (omega arith, met-unmarked _ (few (c .before .before .before .before .before .before)) _ (c .before .before .before .before .loop .inv .1) (there (c .before .before)) (it (c .before .before)) (c .if1 .taken))
-
-wide-requires : tie.Need-wide-requires Inv-loop μ-loop
-wide-requires c κs = search needs
-
-mul-who : tie.Need-mul-who Inv-loop μ-loop
-mul-who c = omega (arith, place c)
-
-element-copy-out-who : tie.Need-element-copy-out-who Inv-loop μ-loop
-element-copy-out-who c = place c
-
-returns : tie.Need-returns Inv-loop μ-loop
-returns c = met-no-maker (marked (c .before .before .before)) (λ e. c .if2 .taken (sym (maker (c .before .before .before)) ∙ e))
-
-returns-2 : tie.Need-returns-2 Inv-loop μ-loop
-returns-2 c = met-close (marked (c .before .before .before .before .before)) (c .if3 .taken)
-
-mul-if4 : tie.Need-mul-if4 Inv-loop μ-loop
-mul-if4 c = omega (arith, place (c .before .before .before .before .before))
-
-array-read-if4 : tie.Need-array-read-if4 Inv-loop μ-loop
-array-read-if4 c = place (c .before .before .before .before .before)
-
-returns-3 : tie.Need-returns-3 Inv-loop μ-loop
-returns-3 c = met-again (marked (c .before .before .before .before .before .before)) (c .if4 .taken)
-
-mul-seen : tie.Need-mul-seen Inv-loop μ-loop
-mul-seen c = omega (arith, place (c .before .before .before .before .before .before))
-
-array-write-seen : tie.Need-array-write-seen Inv-loop μ-loop
-array-write-seen c = place (c .before .before .before .before .before .before)
-
-add-i-2 : tie.Need-add-i-2 Inv-loop μ-loop
-add-i-2 c = omega arith
-
-loop-less-2 : tie.Need-loop-less-2 Inv-loop μ-loop
-loop-less-2 c = omega arith
+loop-again c = (
+  omega arith,
+  met-unmarked _ (few (Head (c .before .before) .before .before)) _ (c .before .before .before .before .loop .inv .1)
+      (there (c .before .before)) (it (c .before .before)) (c .if1 .taken),
+)
 
 loop-again-2 : tie.Need-loop-again-2 Inv-loop μ-loop
 loop-again-2 c =
-    (omega arith, met-marked (marked (c .before .before .before .before .before .before)) (maker (c .before .before .before .before .before .before) ∙ c .before .before .before .if2 .left) (c .before .if3 .left) (c .if4 .left))
+    let wide = Wide (c .before .before .before) in
+    (omega arith, met-marked (marked wide) (maker wide ∙ c .before .before .before .if2 .left) (c .before .if3 .left) (c .if4 .left))
 
 returns-4 : tie.Need-returns-4 Inv-loop μ-loop
-returns-4 c = all-met _ (few (c .before .before .before)) _ (c .before .loop .inv .1) (omega (arith, length-queue (c .before .before .before .args .area .now) (c .before .before .before .args .c) (c .before .before .before .args .count)))
+returns-4 c =
+    all-met _ (few (c .before .before .before)) _ (c .before .loop .inv .1) (omega (
+      arith,
+      length-queue (c .before .before .before .args .area .now)
+          (c .before .before .before .args .c) (c .before .before .before .args .count),
+    ))
 
 pub queue-quoted-spec : {M : Type 1} → statement M
-queue-quoted-spec =
-    tie.close
-    (tie.spec
+queue-quoted-spec = tie.close (tie.spec
     Inv-loop
     μ-loop
-    loop-holds
-    order-at-requires
-    add-i
-    loop-less
+    (λ c. (omega arith, met-none _ (few (c .before)) _))  -- loop-holds
+    (λ c κs. omega (arith, c .before .before .before .pre .1))  -- order-at-requires
+    (λ c. omega arith)  -- add-i
+    (λ c. omega arith)  -- loop-less
     loop-again
-    wide-requires
-    mul-who
-    element-copy-out-who
-    returns
-    returns-2
-    mul-if4
-    array-read-if4
-    returns-3
-    mul-seen
-    array-write-seen
-    add-i-2
-    loop-less-2
+    (λ c κs. search needs)  -- wide-requires
+    (λ c. omega (arith, place c))  -- mul-who
+    (λ c. place c)  -- element-copy-out-who
+    (λ c. met-no-maker (marked (c .before .before .before)) (λ e. c .if2 .taken (sym (maker (c .before .before .before)) ∙ e)))  -- returns
+    (λ c. met-close (marked (Wide (c .before .before))) (c .if3 .taken))  -- returns-2
+    (λ c. omega (arith, place (Wide (c .before .before))))  -- mul-if4
+    (λ c. place (Wide (c .before .before)))  -- array-read-if4
+    (λ c. met-again (marked (Wide (c .before .before .before))) (c .if4 .taken))  -- returns-3
+    (λ c. omega (arith, place (Wide (c .before .before .before))))  -- mul-seen
+    (λ c. place (Wide (c .before .before .before)))  -- array-write-seen
+    (λ c. omega arith)  -- add-i-2
+    (λ c. omega arith)  -- loop-less-2
     loop-again-2
     returns-4)

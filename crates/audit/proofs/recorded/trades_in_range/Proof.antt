@@ -19,43 +19,27 @@ Inv-loop list contracts accounts next area count i₀ i =
 abbrev μ-loop : tie.MeasureT-loop
 μ-loop list contracts accounts next area count i₀ i = count - i
 
-loop-holds : tie.Need-loop-holds Inv-loop μ-loop
-loop-holds c = (omega arith, record { rest = refl })
-
-trade-at-requires : tie.Need-trade-at-requires Inv-loop μ-loop
-trade-at-requires c κs = omega arith
-
-trade-in-range-requires : tie.Need-trade-in-range-requires Inv-loop μ-loop
-trade-in-range-requires c κs = c .before .before .before .before .pre .0
-
 returns : tie.Need-returns Inv-loop μ-loop
 returns c =
-    each-out (c .before .before .before .before .loop .inv .1) (next-trade _ _ _ (c .before .before .before .loop-test .taken) (c .before .before .trade-at .ensures)) (refused (c .before .trade-in-range .ensures) (c .if1 .taken))
-
-add-i : tie.Need-add-i Inv-loop μ-loop
-add-i c = omega arith
-
-loop-less : tie.Need-loop-less Inv-loop μ-loop
-loop-less c = omega arith
+    each-out (c .before .before .before .before .loop .inv .1) (next-trade _ _ _ (c .before .before .before .loop-test .taken) (c .before .before .trade-at .ensures))
+    (refused (c .before .trade-in-range .ensures) (c .if1 .taken))
 
 loop-again : tie.Need-loop-again Inv-loop μ-loop
-loop-again c =
-    (omega arith, each-turn (c .before .before .before .before .loop .inv .1) (next-trade _ _ _ (c .before .before .before .loop-test .taken) (c .before .before .trade-at .ensures)) (passed (c .before .trade-in-range .ensures) (c .if1 .left)))
-
-returns-2 : tie.Need-returns-2 Inv-loop μ-loop
-returns-2 c = each-end (c .before .loop .inv .1) (no-trades _ _ _ (c .loop-test .left))
+loop-again c = (
+  omega arith,
+  each-turn (c .before .before .before .before .loop .inv .1) (next-trade _ _ _ (c .before .before .before .loop-test .taken)
+      (c .before .before .trade-at .ensures)) (passed (c .before .trade-in-range .ensures) (c .if1 .left)),
+)
 
 pub trades-in-range-spec : {M : Type 1} → statement M
-trades-in-range-spec =
-    tie.close
-    (tie.spec
+trades-in-range-spec = tie.close (tie.spec
     Inv-loop
     μ-loop
-    loop-holds
-    trade-at-requires
-    trade-in-range-requires
+    (λ c. (omega arith, record { rest = refl }))  -- loop-holds
+    (λ c κs. omega arith)  -- trade-at-requires
+    (λ c κs. c .before .before .before .before .pre .0)  -- trade-in-range-requires
     returns
-    add-i
-    loop-less
+    (λ c. omega arith)  -- add-i
+    (λ c. omega arith)  -- loop-less
     loop-again
-    returns-2)
+    (λ c. each-end (c .before .loop .inv .1) (no-trades _ _ _ (c .loop-test .left))))  -- returns-2

@@ -17,6 +17,14 @@ Inv-loop contracts a b c₀ c =
 abbrev μ-loop : tie.MeasureT-loop
 μ-loop contracts a b c₀ c = contracts - c
 
+-- back to the turn's begin
+abbrev Turn : tie.Else1 Inv-loop μ-loop → tie.In-loop Inv-loop μ-loop
+Turn c = c .before .before .before .before .before
+
+-- back to the turn's begin
+abbrev Turn-from-met-long : tie.Then1 Inv-loop μ-loop → tie.In-loop Inv-loop μ-loop
+Turn-from-met-long c = c .before .before .before .before .before
+
 -- the contracts in use are among the four
 first : (c : tie.Start Inv-loop μ-loop) → c .args .contracts ≤ length (c .args .t1 .holdings)
 first c =
@@ -28,60 +36,43 @@ second c =
     let e : length (c .args .t2 .holdings) ≡ 4 = search (needs, unmapped) in
     omega (arith, c .pre)
 
-loop-holds : tie.Need-loop-holds Inv-loop μ-loop
-loop-holds c = (omega arith, refl)
-
-mul-h : tie.Need-mul-h Inv-loop μ-loop
-mul-h c = omega arith
-
-element-copy-out-h : tie.Need-element-copy-out-h Inv-loop μ-loop
-element-copy-out-h c = omega arith
-
-mul-k : tie.Need-mul-k Inv-loop μ-loop
-mul-k c = omega arith
-
-element-copy-out-k : tie.Need-element-copy-out-k Inv-loop μ-loop
-element-copy-out-k c = omega arith
-
 returns : tie.Need-returns Inv-loop μ-loop
 returns c =
-    let s = c .before .before .before .before .before .before .before in
-    long-differs (s .args .t1 .holdings) (s .args .t2 .holdings) _ _ (c .before .before .before .before .before .before .loop .inv .1) (c .before .before .before .before .before .loop-test .taken) (first s) (second s) (c .if1 .taken)
+    let turn-from-met-long = Turn-from-met-long c in
+    let s = turn-from-met-long .before .before in
+    long-differs (s .args .t1 .holdings) (s .args .t2 .holdings) _ _ (turn-from-met-long .before .loop .inv .1) (turn-from-met-long .loop-test .taken) (first s) (second s) (c .if1 .taken)
 
 returns-2 : tie.Need-returns-2 Inv-loop μ-loop
 returns-2 c =
-    let s = c .before .before .before .before .before .before .before .before .before .before in
-    short-differs (s .args .t1 .holdings) (s .args .t2 .holdings) _ _ (c .before .before .before .before .before .before .before .before .before .loop .inv .1) (c .before .before .before .before .before .before .before .before .loop-test .taken) (first s) (second s) (c .before .before .before .if1 .left) (c .if2 .taken)
-
-add-c : tie.Need-add-c Inv-loop μ-loop
-add-c c = omega arith
-
-loop-less : tie.Need-loop-less Inv-loop μ-loop
-loop-less c = omega arith
+    let turn = Turn (c .before .before .before) in
+    let s = turn .before .before in
+    short-differs (s .args .t1 .holdings) (s .args .t2 .holdings) _ _ (turn .before .loop .inv .1) (turn .loop-test .taken) (first s) (second s) (c .before .before .before .if1 .left) (c .if2 .taken)
 
 loop-again : tie.Need-loop-again Inv-loop μ-loop
 loop-again c =
-    let s = c .before .before .before .before .before .before .before .before .before .before in
-    (omega arith, same-turn (s .args .t1 .holdings) (s .args .t2 .holdings) _ _ (c .before .before .before .before .before .before .before .before .before .loop .inv .1) (c .before .before .before .before .before .before .before .before .loop-test .taken) (first s) (second s) (c .before .before .before .if1 .left) (c .if2 .left))
+    let turn = Turn (c .before .before .before) in
+    let s = turn .before .before in (
+      omega arith,
+      same-turn (s .args .t1 .holdings) (s .args .t2 .holdings) _ _ (turn .before .loop .inv .1) (turn .loop-test .taken) (first s)
+          (second s) (c .before .before .before .if1 .left) (c .if2 .left),
+    )
 
 returns-3 : tie.Need-returns-3 Inv-loop μ-loop
 returns-3 c =
     same-end (c .before .before .args .t1 .holdings) (c .before .before .args .t2 .holdings) _ _ (c .before .loop .inv .1) (c .loop-test .left)
 
 pub has-same-lots-spec : {M : Type 1} → statement M
-has-same-lots-spec =
-    tie.close
-    (tie.spec
+has-same-lots-spec = tie.close (tie.spec
     Inv-loop
     μ-loop
-    loop-holds
-    mul-h
-    element-copy-out-h
-    mul-k
-    element-copy-out-k
+    (λ c. (omega arith, refl))  -- loop-holds
+    (λ c. omega arith)  -- mul-h
+    (λ c. omega arith)  -- element-copy-out-h
+    (λ c. omega arith)  -- mul-k
+    (λ c. omega arith)  -- element-copy-out-k
     returns
     returns-2
-    add-c
-    loop-less
+    (λ c. omega arith)  -- add-c
+    (λ c. omega arith)  -- loop-less
     loop-again
     returns-3)

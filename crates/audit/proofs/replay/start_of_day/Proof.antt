@@ -14,50 +14,21 @@ Inv-loop held₀ i₀ held i =
 abbrev μ-loop : tie.MeasureT-loop
 μ-loop held₀ i₀ held i = 32 - i
 
-loop-holds : tie.Need-loop-holds Inv-loop μ-loop
-loop-holds c = (omega arith, started-none (search (needs, unmapped)))
-
-mul-start-account : tie.Need-mul-start-account Inv-loop μ-loop
-mul-start-account c = omega arith
-
-array-copy-out-start-account : tie.Need-array-copy-out-start-account Inv-loop μ-loop
-array-copy-out-start-account c = omega arith
-
-start-account-requires : tie.Need-start-account-requires Inv-loop μ-loop
-start-account-requires c κs = search needs
-
-mul-held : tie.Need-mul-held Inv-loop μ-loop
-mul-held c = omega arith
-
-array-set-from-held : tie.Need-array-set-from-held Inv-loop μ-loop
-array-set-from-held c = omega arith
-
-add-i : tie.Need-add-i Inv-loop μ-loop
-add-i c = omega arith
-
-loop-less : tie.Need-loop-less Inv-loop μ-loop
-loop-less c = omega arith
-
 loop-again : tie.Need-loop-again Inv-loop μ-loop
 loop-again c =
     (omega arith, started-more (c .before .before .before .loop .inv .1) (c .before .before .loop-test .taken) (c .start-account .ensures))
 
-returns : tie.Need-returns Inv-loop μ-loop
-returns c = started-all (c .before .loop .inv .1) (c .before .loop .inv .0) (c .loop-test .left)
-
 pub start-of-day-spec : {M : Type 1} → statement M
-start-of-day-spec =
-    tie.close
-    (tie.spec
+start-of-day-spec = tie.close (tie.spec
     Inv-loop
     μ-loop
-    loop-holds
-    mul-start-account
-    array-copy-out-start-account
-    start-account-requires
-    mul-held
-    array-set-from-held
-    add-i
-    loop-less
+    (λ c. (omega arith, started-none (search (needs, unmapped))))  -- loop-holds
+    (λ c. omega arith)  -- mul-start-account
+    (λ c. omega arith)  -- array-copy-out-start-account
+    (λ c κs. search needs)  -- start-account-requires
+    (λ c. omega arith)  -- mul-held
+    (λ c. omega arith)  -- array-set-from-held
+    (λ c. omega arith)  -- add-i
+    (λ c. omega arith)  -- loop-less
     loop-again
-    returns)
+    (λ c. started-all (c .before .loop .inv .1) (c .before .loop .inv .0) (c .loop-test .left)))  -- returns

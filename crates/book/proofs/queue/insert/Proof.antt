@@ -4,15 +4,6 @@ use Rattle.book.proofs.Queues.{found-within, rested-order}
 use Rattle.book.proofs.queue.insert.Statement.{statement}
 use Rattle.book.proofs.queue.insert.Tie as tie
 
-place-requires : tie.Need-place-requires
-place-requires c κs = search needs
-
-insert-at-requires : tie.Need-insert-at-requires
-insert-at-requires c κs = (found-within _ _ _ _ _ (c .before .place .ensures), c .before .before .before .before .pre)
-
-same-length : tie.Need-same-length
-same-length c = search needs
-
 returns : tie.Need-returns
 returns c =
     let placed = c .before .before .before .before in
@@ -20,4 +11,8 @@ returns c =
     rested-order (start .args .area .now) (start .args .c) (start .args .count) (start .args .sell) _ (start .args .o) (placed .place .ensures) (c .before .before .insert-at .ensures)
 
 pub insert-spec : {M : Type 1} → statement M
-insert-spec = tie.close (tie.spec place-requires insert-at-requires same-length returns)
+insert-spec = tie.close (tie.spec
+    (λ c κs. search needs)  -- place-requires
+    (λ c κs. (found-within _ _ _ _ _ (c .before .place .ensures), c .before .before .before .before .pre))  -- insert-at-requires
+    (λ c. search needs)  -- same-length
+    returns)

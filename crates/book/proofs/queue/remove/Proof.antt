@@ -5,61 +5,27 @@ use borrow.Author.Needs.{needs}
 use Rattle.book.proofs.queue.remove.Statement.{statement}
 use Rattle.book.proofs.queue.remove.Tie as tie
 
-mul-a : tie.Need-mul-a
-mul-a c = search needs
-
-mul-a-2 : tie.Need-mul-a-2
-mul-a-2 c = search needs
-
-add-a : tie.Need-add-a
-add-a c = search needs
-
-mul-e : tie.Need-mul-e
-mul-e c = search needs
-
-mul-e-2 : tie.Need-mul-e-2
-mul-e-2 c = search needs
-
-add-e : tie.Need-add-e
-add-e c = search needs
-
-mul-close-up : tie.Need-mul-close-up
-mul-close-up c = search needs
-
-sub-close-up : tie.Need-sub-close-up
-sub-close-up c = search needs
-
-part-close-up-start : tie.Need-part-close-up-start
-part-close-up-start c = search needs
-
-part-close-up-end : tie.Need-part-close-up-end
-part-close-up-end c = search needs
-
-close-up-requires : tie.Need-close-up-requires
-close-up-requires c κs = search needs
-
-same-length : tie.Need-same-length
-same-length c = search needs
+-- back to the start
+abbrev Begun : tie.After-close-up → tie.Start
+Begun c = c .before .before .before
 
 returns : tie.Need-returns
 returns c =
-    let start = c .before .before .before .before .before in
+    let start = Begun (c .before .before) in
     removed-order (start .args .area .now) (start .args .c) (start .args .count) (start .args .i) _ _ _ (start .pre .0) refl refl (start .pre .1) (c .before .before .close-up .ensures)
 
 pub remove-spec : {M : Type 1} → statement M
-remove-spec =
-    tie.close
-    (tie.spec
-    mul-a
-    mul-a-2
-    add-a
-    mul-e
-    mul-e-2
-    add-e
-    mul-close-up
-    sub-close-up
-    part-close-up-start
-    part-close-up-end
-    close-up-requires
-    same-length
+remove-spec = tie.close (tie.spec
+    (λ c. search needs)  -- mul-a
+    (λ c. search needs)  -- mul-a-2
+    (λ c. search needs)  -- add-a
+    (λ c. search needs)  -- mul-e
+    (λ c. search needs)  -- mul-e-2
+    (λ c. search needs)  -- add-e
+    (λ c. search needs)  -- mul-close-up
+    (λ c. search needs)  -- sub-close-up
+    (λ c. search needs)  -- part-close-up-start
+    (λ c. search needs)  -- part-close-up-end
+    (λ c κs. search needs)  -- close-up-requires
+    (λ c. search needs)  -- same-length
     returns)

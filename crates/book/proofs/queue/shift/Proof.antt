@@ -5,15 +5,6 @@ use Rattle.book.proofs.Queues.{shift-in}
 use Rattle.book.proofs.queue.shift.Statement.{statement}
 use Rattle.book.proofs.queue.shift.Tie as tie
 
-move-back-requires : tie.Need-move-back-requires
-move-back-requires c κs = search needs
-
-put-requires : tie.Need-put-requires
-put-requires c κs = search needs
-
-same-length : tie.Need-same-length
-same-length c = search needs
-
 returns : tie.Need-returns
 returns c =
     let put = c .before .before in
@@ -22,4 +13,8 @@ returns c =
     put .put .ensures ∙ shift-in (start .args .part .now) _ (start .args .o) (start .pre) (moved .move-back .ensures)
 
 pub shift-spec : {M : Type 1} → statement M
-shift-spec = tie.close (tie.spec move-back-requires put-requires same-length returns)
+shift-spec = tie.close (tie.spec
+    (λ c κs. search needs)  -- move-back-requires
+    (λ c κs. search needs)  -- put-requires
+    (λ c. search needs)  -- same-length
+    returns)

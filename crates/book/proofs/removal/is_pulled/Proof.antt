@@ -3,14 +3,8 @@ use Rattle.book.proofs.Pulls.{pulled-another, pulled-quote, pulled-any}
 use Rattle.book.proofs.removal.is_pulled.Statement.{statement}
 use Rattle.book.proofs.removal.is_pulled.Tie as tie
 
-returns : tie.Need-returns
-returns c = pulled-another (c .before .before .args .quote) (c .before .before .args .account) (c .before .before .args .o) (c .if1 .taken)
-
-returns-2 : tie.Need-returns-2
-returns-2 c = pulled-quote _ _ _ (c .before .before .if1 .left) (c .before .if2 .taken)
-
-returns-3 : tie.Need-returns-3
-returns-3 c = pulled-any _ _ _ (c .before .if1 .left) (c .if2 .left)
-
 pub is-pulled-spec : {M : Type 1} → statement M
-is-pulled-spec = tie.close (tie.spec returns returns-2 returns-3)
+is-pulled-spec = tie.close (tie.spec
+    (λ c. pulled-another (c .before .before .args .quote) (c .before .before .args .account) (c .before .before .args .o) (c .if1 .taken))  -- returns
+    (λ c. pulled-quote _ _ _ (c .before .before .if1 .left) (c .before .if2 .taken))  -- returns-2
+    (λ c. pulled-any _ _ _ (c .before .if1 .left) (c .if2 .left)))  -- returns-3

@@ -21,59 +21,34 @@ Inv-loop area c count t lots condition left₀ i₀ left i =
 abbrev μ-loop : tie.MeasureT-loop
 μ-loop area c count t lots condition left₀ i₀ left i = count - i
 
-loop-holds : tie.Need-loop-holds Inv-loop μ-loop
-loop-holds c = (omega arith, zero-add _)
-
-returns : tie.Need-returns Inv-loop μ-loop
-returns c = tally-none _ _ _ (c .before .before .loop .inv .1) (trades-used _ _ _ (c .if1 .taken))
-
-order-at-requires : tie.Need-order-at-requires Inv-loop μ-loop
-order-at-requires c κs = omega arith
-
-meets-requires : tie.Need-meets-requires Inv-loop μ-loop
-meets-requires c κs = search needs
-
 returns-2 : tie.Need-returns-2 Inv-loop μ-loop
 returns-2 c =
     let read = c .before .before in
     let at = read .before .before .before in
-    tally-stop (countTrades _ _) _ _ _ _ _ _ (at .loop .inv .1) _ (read .before .before .loop-test .taken) (read .order-at .ensures) (λ os. count-unmet _ _ _ os (test-failed _ _ (c .before .meets .ensures) (c .if2 .taken)))
-
-smaller-requires : tie.Need-smaller-requires Inv-loop μ-loop
-smaller-requires c κs = search needs
-
-sub-left : tie.Need-sub-left Inv-loop μ-loop
-sub-left c = omega arith
-
-add-i : tie.Need-add-i Inv-loop μ-loop
-add-i c = omega arith
-
-loop-less : tie.Need-loop-less Inv-loop μ-loop
-loop-less c = omega arith
+    tally-stop (countTrades _ _) _ _ _ _ _ _ (at .loop .inv .1) _ (read .before .before .loop-test .taken) (read .order-at .ensures)
+    (λ os. count-unmet _ _ _ os (test-failed _ _ (c .before .meets .ensures) (c .if2 .taken)))
 
 loop-again : tie.Need-loop-again Inv-loop μ-loop
 loop-again c =
     let read = c .before .before .before in
-    let at = read .before .before .before in
-    (omega arith, tally-on (countTrades _ _) _ _ _ _ _ _ (at .loop .inv .1) _ (read .before .before .loop-test .taken) (read .order-at .ensures) (countTrades _ _) 1 (trades-on _ _ _ _ (read .before .if1 .left) (c .smaller .ensures) (test-passed _ _ (c .before .before .meets .ensures) (c .before .if2 .left))))
-
-returns-3 : tie.Need-returns-3 Inv-loop μ-loop
-returns-3 c = tally-end (countTrades _ _) _ _ _ _ _ _ (c .before .loop .inv .1) (c .loop-test .left) (count-end _ _)
+    let at = read .before .before .before in (
+      omega arith,
+      tally-on (countTrades _ _) _ _ _ _ _ _ (at .loop .inv .1) _ (read .before .before .loop-test .taken) (read .order-at .ensures)
+          (countTrades _ _) 1 (trades-on _ _ _ _ (read .before .if1 .left) (c .smaller .ensures) (test-passed _ _ (c .before .before .meets .ensures) (c .before .if2 .left))),
+    )
 
 pub count-trades-spec : {M : Type 1} → statement M
-count-trades-spec =
-    tie.close
-    (tie.spec
+count-trades-spec = tie.close (tie.spec
     Inv-loop
     μ-loop
-    loop-holds
-    returns
-    order-at-requires
-    meets-requires
+    (λ c. (omega arith, zero-add _))  -- loop-holds
+    (λ c. tally-none _ _ _ (c .before .before .loop .inv .1) (trades-used _ _ _ (c .if1 .taken)))  -- returns
+    (λ c κs. omega arith)  -- order-at-requires
+    (λ c κs. search needs)  -- meets-requires
     returns-2
-    smaller-requires
-    sub-left
-    add-i
-    loop-less
+    (λ c κs. search needs)  -- smaller-requires
+    (λ c. omega arith)  -- sub-left
+    (λ c. omega arith)  -- add-i
+    (λ c. omega arith)  -- loop-less
     loop-again
-    returns-3)
+    (λ c. tally-end (countTrades _ _) _ _ _ _ _ _ (c .before .loop .inv .1) (c .loop-test .left) (count-end _ _)))  -- returns-3

@@ -21,55 +21,36 @@ Inv-loop area c count t condition lots₀ i₀ lots i =
 abbrev μ-loop : tie.MeasureT-loop
 μ-loop area c count t condition lots₀ i₀ lots i = count - i
 
-loop-holds : tie.Need-loop-holds Inv-loop μ-loop
-loop-holds c = (omega arith, (omega arith, zero-add _))
-
-order-at-requires : tie.Need-order-at-requires Inv-loop μ-loop
-order-at-requires c κs = omega arith
-
-meets-requires : tie.Need-meets-requires Inv-loop μ-loop
-meets-requires c κs = search needs
-
 returns : tie.Need-returns Inv-loop μ-loop
 returns c =
     let read = c .before .before in
     let at = read .before .before in
-    tally-stop (fillableFront _) _ _ _ _ _ _ (at .loop .inv .1 .1) _ (read .before .loop-test .taken) (read .order-at .ensures) (λ os. front-unmet _ _ os (test-failed _ _ (c .before .meets .ensures) (c .if1 .taken)))
-
-wide64-requires : tie.Need-wide64-requires Inv-loop μ-loop
-wide64-requires c κs = search needs
-
-add-lots : tie.Need-add-lots Inv-loop μ-loop
-add-lots c = omega arith
-
-add-i : tie.Need-add-i Inv-loop μ-loop
-add-i c = omega arith
-
-loop-less : tie.Need-loop-less Inv-loop μ-loop
-loop-less c = omega arith
+    tally-stop (fillableFront _) _ _ _ _ _ _ (at .loop .inv .1 .1) _ (read .before .loop-test .taken) (read .order-at .ensures)
+    (λ os. front-unmet _ _ os (test-failed _ _ (c .before .meets .ensures) (c .if1 .taken)))
 
 loop-again : tie.Need-loop-again Inv-loop μ-loop
 loop-again c =
     let read = c .before .before .before in
-    let at = read .before .before in
-    (omega arith, (omega arith, tally-on (fillableFront _) _ _ _ _ _ _ (at .loop .inv .1 .1) _ (read .before .loop-test .taken) (read .order-at .ensures) (fillableFront _) _ (fillable-on _ _ _ (c .wide64 .ensures) (test-passed _ _ (c .before .before .meets .ensures) (c .before .if1 .left)))))
-
-returns-2 : tie.Need-returns-2 Inv-loop μ-loop
-returns-2 c = tally-end (fillableFront _) _ _ _ _ _ _ (c .before .loop .inv .1 .1) (c .loop-test .left) (front-end _)
+    let at = read .before .before in (
+      omega arith,
+      (
+        omega arith,
+        tally-on (fillableFront _) _ _ _ _ _ _ (at .loop .inv .1 .1) _ (read .before .loop-test .taken)
+            (read .order-at .ensures) (fillableFront _) _ (fillable-on _ _ _ (c .wide64 .ensures) (test-passed _ _ (c .before .before .meets .ensures) (c .before .if1 .left))),
+      ),
+    )
 
 pub fillable-spec : {M : Type 1} → statement M
-fillable-spec =
-    tie.close
-    (tie.spec
+fillable-spec = tie.close (tie.spec
     Inv-loop
     μ-loop
-    loop-holds
-    order-at-requires
-    meets-requires
+    (λ c. (omega arith, (omega arith, zero-add _)))  -- loop-holds
+    (λ c κs. omega arith)  -- order-at-requires
+    (λ c κs. search needs)  -- meets-requires
     returns
-    wide64-requires
-    add-lots
-    add-i
-    loop-less
+    (λ c κs. search needs)  -- wide64-requires
+    (λ c. omega arith)  -- add-lots
+    (λ c. omega arith)  -- add-i
+    (λ c. omega arith)  -- loop-less
     loop-again
-    returns-2)
+    (λ c. tally-end (fillableFront _) _ _ _ _ _ _ (c .before .loop .inv .1 .1) (c .loop-test .left) (front-end _)))  -- returns-2

@@ -4,17 +4,9 @@ use Rattle.book.proofs.Scans.{other-account, other-mark, own-lots}
 use Rattle.book.proofs.scan.lots_of.Statement.{statement}
 use Rattle.book.proofs.scan.lots_of.Tie as tie
 
-returns : tie.Need-returns
-returns c = other-account _ _ _ (c .if1 .taken)
-
-returns-2 : tie.Need-returns-2
-returns-2 c = other-mark _ _ _ (c .if2 .taken)
-
-wide64-requires : tie.Need-wide64-requires
-wide64-requires c κs = search needs
-
-returns-3 : tie.Need-returns-3
-returns-3 c = own-lots _ _ _ _ (c .wide64 .ensures) (c .before .before .before .if1 .left) (c .before .if2 .left)
-
 pub lots-of-spec : {M : Type 1} → statement M
-lots-of-spec = tie.close (tie.spec returns returns-2 wide64-requires returns-3)
+lots-of-spec = tie.close (tie.spec
+    (λ c. other-account _ _ _ (c .if1 .taken))  -- returns
+    (λ c. other-mark _ _ _ (c .if2 .taken))  -- returns-2
+    (λ c κs. search needs)  -- wide64-requires
+    (λ c. own-lots _ _ _ _ (c .wide64 .ensures) (c .before .before .before .if1 .left) (c .before .if2 .left)))  -- returns-3

@@ -23,60 +23,38 @@ abbrev μ-loop : tie.MeasureT-loop
 few : (c : tie.After-lots-of Inv-loop μ-loop) → c .lots-of .result ≤ c .before .order-at .result .lots
 few c = resting-within _ _ _ _ (c .lots-of .ensures)
 
-loop-holds : tie.Need-loop-holds Inv-loop μ-loop
-loop-holds c = (omega arith, (omega arith, zero-add _))
-
-add-i : tie.Need-add-i Inv-loop μ-loop
-add-i c = omega arith
-
-word-at-requires : tie.Need-word-at-requires Inv-loop μ-loop
-word-at-requires c κs = (omega arith, omega arith)
-
-order-at-requires : tie.Need-order-at-requires Inv-loop μ-loop
-order-at-requires c κs = omega arith
-
-lots-of-requires : tie.Need-lots-of-requires Inv-loop μ-loop
-lots-of-requires c κs = search needs
-
-add-lots : tie.Need-add-lots Inv-loop μ-loop
-add-lots c = omega (arith, few c)
-
-loop-less : tie.Need-loop-less Inv-loop μ-loop
-loop-less c = omega arith
-
 loop-again : tie.Need-loop-again Inv-loop μ-loop
 loop-again c =
     let read = c .before in
-    let at = read .before .before .before in
-    (omega arith, (omega (arith, few c, read .order-at .ok), tally-on (resting _ _) _ _ _ _ _ _ (at .before .loop .inv .1 .1) _ (at .loop-test .taken) (read .order-at .ensures) (resting _ _) _ (resting-on _ _ _ _ (c .lots-of .ensures))))
-
-loop-less-2 : tie.Need-loop-less-2 Inv-loop μ-loop
-loop-less-2 c = omega arith
+    let at = read .before .before .before in (
+      omega arith,
+      (
+        omega (arith, few c, read .order-at .ok),
+        tally-on (resting _ _) _ _ _ _ _ _ (at .before .loop .inv .1 .1) _ (at .loop-test .taken)
+            (read .order-at .ensures) (resting _ _) _ (resting-on _ _ _ _ (c .lots-of .ensures)),
+      ),
+    )
 
 loop-again-2 : tie.Need-loop-again-2 Inv-loop μ-loop
 loop-again-2 c =
     let word = c .before in
     let at = word .before in
-    let so = tally-on (resting _ _) _ _ _ _ _ _ (at .before .loop .inv .1 .1) _ (at .loop-test .taken) refl (resting _ _) 0 (resting-on _ _ _ _ (other-account _ _ _ (λ e. c .if1 .left (word .word-at .ensures ∙ e)))) in
+    let so = tally-on (resting _ _) _ _ _ _ _ _ (at .before .loop .inv .1 .1) _ (at .loop-test .taken) refl (resting _ _) 0
+    (resting-on _ _ _ _ (other-account _ _ _ (λ e. c .if1 .left (word .word-at .ensures ∙ e)))) in
     (omega arith, (omega arith, omega (arith, so)))
 
-returns : tie.Need-returns Inv-loop μ-loop
-returns c = tally-end (resting _ _) _ _ _ _ _ _ (c .before .loop .inv .1 .1) (c .loop-test .left) (resting-nil _ _)
-
 pub resting-spec : {M : Type 1} → statement M
-resting-spec =
-    tie.close
-    (tie.spec
+resting-spec = tie.close (tie.spec
     Inv-loop
     μ-loop
-    loop-holds
-    add-i
-    word-at-requires
-    order-at-requires
-    lots-of-requires
-    add-lots
-    loop-less
+    (λ c. (omega arith, (omega arith, zero-add _)))  -- loop-holds
+    (λ c. omega arith)  -- add-i
+    (λ c κs. (omega arith, omega arith))  -- word-at-requires
+    (λ c κs. omega arith)  -- order-at-requires
+    (λ c κs. search needs)  -- lots-of-requires
+    (λ c. omega (arith, few c))  -- add-lots
+    (λ c. omega arith)  -- loop-less
     loop-again
-    loop-less-2
+    (λ c. omega arith)  -- loop-less-2
     loop-again-2
-    returns)
+    (λ c. tally-end (resting _ _) _ _ _ _ _ _ (c .before .loop .inv .1 .1) (c .loop-test .left) (resting-nil _ _)))  -- returns

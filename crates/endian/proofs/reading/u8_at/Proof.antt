@@ -5,12 +5,11 @@ use Rattle.rules.specs.DayFile.{u8At}
 use Rattle.endian.proofs.reading.u8_at.Statement.{statement}
 use Rattle.endian.proofs.reading.u8_at.Tie as tie
 
-shared-slice-read-result : tie.Need-shared-slice-read-result
-shared-slice-read-result c = search needs
-
 returns : tie.Need-returns
 unfolding u8At
 returns c = refl
 
 pub u8-at-spec : {M : Type 1} → statement M
-u8-at-spec = tie.close (tie.spec shared-slice-read-result returns)
+u8-at-spec = tie.close (tie.spec
+    (λ c. search needs)  -- shared-slice-read-result
+    returns)

@@ -4,17 +4,9 @@ use Rattle.endian.proofs.Writes.{one-byte}
 use Rattle.endian.proofs.writing.put_byte.Statement.{statement}
 use Rattle.endian.proofs.writing.put_byte.Tie as tie
 
-slice-write-out : tie.Need-slice-write-out
-slice-write-out c = search needs
-
-add-result : tie.Need-add-result
-add-result c = search needs
-
-same-length : tie.Need-same-length
-same-length c = search needs
-
-returns : tie.Need-returns
-returns c = one-byte _ _ _ (c .pre)
-
 pub put-byte-spec : {M : Type 1} → statement M
-put-byte-spec = tie.close (tie.spec slice-write-out add-result same-length returns)
+put-byte-spec = tie.close (tie.spec
+    (λ c. search needs)  -- slice-write-out
+    (λ c. search needs)  -- add-result
+    (λ c. search needs)  -- same-length
+    (λ c. one-byte _ _ _ (c .pre)))  -- returns

@@ -14,45 +14,41 @@ Inv-loop out₀ at file from n next₀ i₀ out next i = (i ≤ n) × Written i 
 abbrev μ-loop : tie.MeasureT-loop
 μ-loop out₀ at file from n next₀ i₀ out next i = n - i
 
-loop-holds : tie.Need-loop-holds Inv-loop μ-loop
-loop-holds c = (omega arith, no-byte _ _ (omega (arith, c .before .before .pre .0)))
+-- back to the start
+abbrev Begun : tie.After-put-byte-arg Inv-loop μ-loop → tie.Start Inv-loop μ-loop
+Begun c = c .before .before .before .before .before .before
 
-add-byte : tie.Need-add-byte Inv-loop μ-loop
-add-byte c = omega (arith, c .before .before .before .before .pre .1)
-
-shared-slice-read-byte : tie.Need-shared-slice-read-byte Inv-loop μ-loop
-shared-slice-read-byte c = omega (arith, c .before .before .before .before .before .pre .1)
+-- back to the loop's head
+abbrev Head : tie.After-shared-slice-known2 Inv-loop μ-loop → tie.At-loop Inv-loop μ-loop
+Head c = c .before .before
 
 put-byte-requires : tie.Need-put-byte-requires Inv-loop μ-loop
-put-byte-requires c κs = let w = c .before .before .before .loop .inv .1 in omega (arith, c .before .before .before .before .before .before .pre .0, w .ends, w .kept, length-part (c .before .before .before .before .before .before .args .file .now) (c .before .before .before .before .before .before .args .from) (c .before .before .before .loop .i) (omega (arith, c .before .before .before .before .before .before .pre .1)))
-
-add-i : tie.Need-add-i Inv-loop μ-loop
-add-i c = omega arith
-
-loop-less : tie.Need-loop-less Inv-loop μ-loop
-loop-less c = omega arith
+put-byte-requires c κs =
+    let w = c .before .before .before .loop .inv .1 in omega (
+      arith,
+      Begun c .pre .0,
+      w .ends,
+      w .kept,
+      length-part (Begun c .args .file .now)
+          (Begun c .args .from) (c .before .before .before .loop .i) (omega (arith, Begun c .pre .1)),
+    )
 
 loop-again : tie.Need-loop-again Inv-loop μ-loop
-loop-again c = (omega arith, part-turn (c .before .before .before .before .before .before .before .before .before .args .file .now) (c .before .before .before .before .before .before .before .before .before .args .from) (c .before .before .before .before .before .before .loop .i) (omega (arith, c .before .before .before .before .before .before .before .before .before .pre .1)) (c .before .before .before .before .before .before .loop .inv .1) (c .before .before .put-byte .ensures))
-
-same-length : tie.Need-same-length Inv-loop μ-loop
-same-length c = c .before .loop .inv .1 .kept
-
-returns : tie.Need-returns Inv-loop μ-loop
-returns c = let e : c .before .loop .i ≡ c .before .before .before .before .args .n = omega arith in rw (← e) (c .before .loop .inv .1)
+loop-again c =
+    let start = Begun (c .before .before .before) in
+    let head = Head (c .before .before .before .before) in
+    (omega arith, part-turn (start .args .file .now) (start .args .from) (head .loop .i) (omega (arith, start .pre .1)) (head .loop .inv .1) (c .before .before .put-byte .ensures))
 
 pub put-part-spec : {M : Type 1} → statement M
-put-part-spec =
-    tie.close
-    (tie.spec
+put-part-spec = tie.close (tie.spec
     Inv-loop
     μ-loop
-    loop-holds
-    add-byte
-    shared-slice-read-byte
+    (λ c. (omega arith, no-byte _ _ (omega (arith, c .before .before .pre .0))))  -- loop-holds
+    (λ c. omega (arith, c .before .before .before .before .pre .1))  -- add-byte
+    (λ c. omega (arith, Head c .before .before .before .pre .1))  -- shared-slice-read-byte
     put-byte-requires
-    add-i
-    loop-less
+    (λ c. omega arith)  -- add-i
+    (λ c. omega arith)  -- loop-less
     loop-again
-    same-length
-    returns)
+    (λ c. c .before .loop .inv .1 .kept)  -- same-length
+    (λ c. let e : c .before .loop .i ≡ c .before .before .before .before .args .n = omega arith in rw (← e) (c .before .loop .inv .1)))  -- returns

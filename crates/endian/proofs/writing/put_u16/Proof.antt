@@ -4,31 +4,15 @@ use borrow.Author.Needs.{needs}
 use Rattle.endian.proofs.writing.put_u16.Statement.{statement}
 use Rattle.endian.proofs.writing.put_u16.Tie as tie
 
-cast-put-byte : tie.Need-cast-put-byte
-cast-put-byte c = search needs
-
-put-byte-requires : tie.Need-put-byte-requires
-put-byte-requires c κs = search needs
-
-cast-put-byte-2 : tie.Need-cast-put-byte-2
-cast-put-byte-2 c = search needs
-
-put-byte-requires-2 : tie.Need-put-byte-requires-2
-put-byte-requires-2 c κs = search needs
-
-same-length : tie.Need-same-length
-same-length c = search needs
-
-returns : tie.Need-returns
-returns c = two-bytes _ (c .before .before .before .before .before .before .put-byte .ensures) (c .before .before .put-byte2 .ensures)
+-- back to the call whose answer is `next`
+abbrev Next : tie.After-put-byte2 → tie.After-put-byte
+Next c = c .before .before .before .before
 
 pub put-u16-spec : {M : Type 1} → statement M
-put-u16-spec =
-    tie.close
-    (tie.spec
-    cast-put-byte
-    put-byte-requires
-    cast-put-byte-2
-    put-byte-requires-2
-    same-length
-    returns)
+put-u16-spec = tie.close (tie.spec
+    (λ c. search needs)  -- cast-put-byte
+    (λ c κs. search needs)  -- put-byte-requires
+    (λ c. search needs)  -- cast-put-byte-2
+    (λ c κs. search needs)  -- put-byte-requires-2
+    (λ c. search needs)  -- same-length
+    (λ c. two-bytes _ (Next (c .before .before) .put-byte .ensures) (c .before .before .put-byte2 .ensures)))  -- returns

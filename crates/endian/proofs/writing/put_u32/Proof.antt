@@ -4,6 +4,10 @@ use borrow.Author.Needs.{needs}
 use Rattle.endian.proofs.writing.put_u32.Statement.{statement}
 use Rattle.endian.proofs.writing.put_u32.Tie as tie
 
+-- back to the call whose answer is `next`
+abbrev Next : tie.After-put-u162 → tie.After-put-u16
+Next c = c .before .before .before .before
+
 cast-put-u16 : tie.Need-cast-put-u16
 cast-put-u16 c = search needs
 
@@ -20,7 +24,7 @@ same-length : tie.Need-same-length
 same-length c = search needs
 
 returns : tie.Need-returns
-returns c = four-bytes _ (c .before .before .before .before .before .before .put-u16 .ensures) (c .before .before .put-u162 .ensures)
+returns c = four-bytes _ (Next (c .before .before) .put-u16 .ensures) (c .before .before .put-u162 .ensures)
 
 pub put-u32-spec : {M : Type 1} → statement M
 put-u32-spec =

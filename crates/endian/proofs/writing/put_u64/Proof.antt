@@ -4,6 +4,10 @@ use borrow.Author.Needs.{needs}
 use Rattle.endian.proofs.writing.put_u64.Statement.{statement}
 use Rattle.endian.proofs.writing.put_u64.Tie as tie
 
+-- back to the call whose answer is `next`
+abbrev Next : tie.After-put-u322 → tie.After-put-u32
+Next c = c .before .before .before .before
+
 cast-put-u32 : tie.Need-cast-put-u32
 cast-put-u32 c = search needs
 
@@ -20,7 +24,7 @@ same-length : tie.Need-same-length
 same-length c = search needs
 
 returns : tie.Need-returns
-returns c = eight-bytes _ (c .before .before .before .before .before .before .put-u32 .ensures) (c .before .before .put-u322 .ensures)
+returns c = eight-bytes _ (Next (c .before .before) .put-u32 .ensures) (c .before .before .put-u322 .ensures)
 
 pub put-u64-spec : {M : Type 1} → statement M
 put-u64-spec =

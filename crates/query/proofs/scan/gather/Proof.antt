@@ -15,71 +15,41 @@ Inv-loop area c count t lots condition left₀ i₀ left i = (i ≤ count) × Ga
 abbrev μ-loop : tie.MeasureT-loop
 μ-loop area c count t lots condition left₀ i₀ left i = count - i
 
-loop-holds : tie.Need-loop-holds Inv-loop μ-loop
-loop-holds c = (omega arith, gather-start _ _ _)
-
-returns : tie.Need-returns Inv-loop μ-loop
-returns c = gather-covered _ _ _ _ _ (c .before .before .loop .inv .1) (c .before .before .before .before .pre) (omega (arith, c .if1 .taken))
-
-order-at-requires : tie.Need-order-at-requires Inv-loop μ-loop
-order-at-requires c κs = omega (arith, c .before .before .before .before .pre .queue .room)
-
-meets-requires : tie.Need-meets-requires Inv-loop μ-loop
-meets-requires c κs = search needs
-
-sub-t13 : tie.Need-sub-t13 Inv-loop μ-loop
-sub-t13 c = omega (arith, c .before .before .before .before .before .loop .inv .1 .uncovered)
-
-add-t14 : tie.Need-add-t14 Inv-loop μ-loop
-add-t14 c = omega arith
+-- back to the loop's head
+abbrev Head : tie.After-meets Inv-loop μ-loop → tie.At-loop Inv-loop μ-loop
+Head c = c .before .before .before .before
 
 returns-2 : tie.Need-returns-2 Inv-loop μ-loop
 returns-2 c =
     let read = c .before .before in
     let at = read .before .before .before in
-    gather-last _ _ _ _ _ (at .loop .inv .1) (omega (arith, read .before .if1 .left)) _ (read .before .before .loop-test .taken) (read .order-at .ensures) (at .before .before .pre) (test-failed _ _ (c .before .meets .ensures) (c .if2 .taken))
-
-smaller-requires : tie.Need-smaller-requires Inv-loop μ-loop
-smaller-requires c κs = search needs
-
-sub-left : tie.Need-sub-left Inv-loop μ-loop
-sub-left c = omega arith
-
-add-i : tie.Need-add-i Inv-loop μ-loop
-add-i c = omega arith
-
-loop-less : tie.Need-loop-less Inv-loop μ-loop
-loop-less c = omega arith
+    gather-last _ _ _ _ _ (at .loop .inv .1) (omega (arith, read .before .if1 .left)) _ (read .before .before .loop-test .taken)
+    (read .order-at .ensures) (at .before .before .pre) (test-failed _ _ (c .before .meets .ensures) (c .if2 .taken))
 
 loop-again : tie.Need-loop-again Inv-loop μ-loop
 loop-again c =
     let read = c .before .before .before in
-    let at = read .before .before .before in
-    (omega arith, gather-on _ _ _ _ _ (at .loop .inv .1) (omega (arith, read .before .if1 .left)) _ (read .before .before .loop-test .taken) (read .order-at .ensures) (c .smaller .ensures) (test-passed _ _ (c .before .before .meets .ensures) (c .before .if2 .left)))
-
-sub-t15 : tie.Need-sub-t15 Inv-loop μ-loop
-sub-t15 c = omega (arith, c .before .loop .inv .1 .uncovered)
-
-returns-3 : tie.Need-returns-3 Inv-loop μ-loop
-returns-3 c = gather-end _ _ _ _ _ (c .before .loop .inv .1) (c .before .before .before .pre) (c .loop-test .left)
+    let at = read .before .before .before in (
+      omega arith,
+      gather-on _ _ _ _ _ (at .loop .inv .1) (omega (arith, read .before .if1 .left)) _ (read .before .before .loop-test .taken)
+          (read .order-at .ensures) (c .smaller .ensures) (test-passed _ _ (c .before .before .meets .ensures) (c .before .if2 .left)),
+    )
 
 pub gather-spec : {M : Type 1} → statement M
-gather-spec =
-    tie.close
-    (tie.spec
+gather-spec = tie.close (tie.spec
     Inv-loop
     μ-loop
-    loop-holds
-    returns
-    order-at-requires
-    meets-requires
-    sub-t13
-    add-t14
+    (λ c. (omega arith, gather-start _ _ _))  -- loop-holds
+    (λ c. gather-covered _ _ _ _ _ (c .before .before .loop .inv .1) (c .before .before .before .before .pre) (omega (arith, c .if1 .taken)))  -- returns
+    (λ c κs. omega (arith, c .before .before .before .before .pre .queue .room))  -- order-at-requires
+    (λ c κs. search needs)  -- meets-requires
+    (λ c. omega (arith, Head (c .before) .loop .inv .1 .uncovered))  -- sub-t13
+    (λ c. omega arith)  -- add-t14
     returns-2
-    smaller-requires
-    sub-left
-    add-i
-    loop-less
+    (λ c κs. search needs)  -- smaller-requires
+    (λ c. omega arith)  -- sub-left
+    (λ c. omega arith)  -- add-i
+    (λ c. omega arith)  -- loop-less
     loop-again
-    sub-t15
-    returns-3)
+    (λ c. omega (arith, c .before .loop .inv .1 .uncovered))  -- sub-t15
+    (λ c. gather-end _ _ _ _ _ (c .before .loop .inv .1) (c .before .before .before .pre) (c .loop-test .left)))  -- returns-3

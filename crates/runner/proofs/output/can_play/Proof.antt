@@ -6,17 +6,11 @@ use Rattle.runner.proofs.WholeOutput.{not-not}
 use Rattle.runner.proofs.output.can_play.Statement.{statement}
 use Rattle.runner.proofs.output.can_play.Tie as tie
 
-sound-requires : tie.Need-sound-requires
-sound-requires c κs = search needs
-
-returns : tie.Need-returns
-returns c = rw (refused (c .before .sound .ensures) (c .if1 .taken))
-
-well-formed-requires : tie.Need-well-formed-requires
-well-formed-requires c κs = search needs
-
-returns-2 : tie.Need-returns-2
-returns-2 c = rw (passed (c .before .before .sound .ensures) (c .before .if1 .left)) (c .well-formed .ensures ∙ not-not _)
-
 pub can-play-spec : {M : Type 1} → statement M
-can-play-spec = tie.close (tie.spec sound-requires returns well-formed-requires returns-2)
+can-play-spec =
+    tie.close
+    (tie.spec
+    (λ c κs. search needs)  -- sound-requires
+    (λ c. rw (refused (c .before .sound .ensures) (c .if1 .taken)))  -- returns
+    (λ c κs. search needs)  -- well-formed-requires
+    (λ c. rw (passed (c .before .before .sound .ensures) (c .before .if1 .left)) (c .well-formed .ensures ∙ not-not _)))  -- returns-2

@@ -24,45 +24,15 @@ Areas c = c .before .before .before .before
 abbrev Begun : tie.After-can-play → tie.Start
 Begun c = Areas (Lent c) .before
 
-can-play-requires : tie.Need-can-play-requires
-can-play-requires c κs = search needs
-
-nothing-requires : tie.Need-nothing-requires
-nothing-requires c κs = search needs
-
-same-length : tie.Need-same-length
-same-length c = search needs
-
-same-length-2 : tie.Need-same-length-2
-same-length-2 c = search needs
-
-same-length-3 : tie.Need-same-length-3
-same-length-3 c = search needs
-
 returns : tie.Need-returns
 returns c =
     let tested = c .before .before in
     rw (c .nothing .ensures) (not-formed _ _ _ _ _ _ _ (refused (tested .can-play .ensures) (c .before .if1 .taken)))
 
-nothing-requires-2 : tie.Need-nothing-requires-2
-nothing-requires-2 c κs = search needs
-
-same-length-4 : tie.Need-same-length-4
-same-length-4 c = search needs
-
-same-length-5 : tie.Need-same-length-5
-same-length-5 c = search needs
-
-same-length-6 : tie.Need-same-length-6
-same-length-6 c = search needs
-
 returns-2 : tie.Need-returns-2
 returns-2 c =
     let tested = c .before .before .before in
     rw (c .nothing2 .ensures) (too-short _ _ _ _ _ _ _ (passed (tested .can-play .ensures) (c .before .before .if1 .left)) (omega (arith, c .before .if2 .taken)))
-
-sound-requires : tie.Need-sound-requires
-sound-requires c κs = search needs
 
 -- a file that can be played, and a buffer with room
 playable : (c : tie.Else2)
@@ -72,21 +42,6 @@ playable c = passed (c .before .before .can-play .ensures) (c .before .if1 .left
 
 room : (c : tie.Else2) → commandMost ≤ length (Begun (c .before .before) .args .out .now)
 room c = omega (arith, c .if2 .left)
-
-print-broken-requires : tie.Need-print-broken-requires
-print-broken-requires c κs = (refused (c .before .before .sound .ensures) (c .before .if3 .taken), room (c .before .before .before))
-
-same-length-7 : tie.Need-same-length-7
-same-length-7 c = search needs
-
-same-length-8 : tie.Need-same-length-8
-same-length-8 c = search needs
-
-same-length-9 : tie.Need-same-length-9
-same-length-9 c = search needs
-
-same-length-10 : tie.Need-same-length-10
-same-length-10 c = search needs
 
 returns-3 : tie.Need-returns-3
 returns-3 c =
@@ -110,18 +65,6 @@ print-sound-requires c κs =
       room = room tested;
     }
 
-same-length-11 : tie.Need-same-length-11
-same-length-11 c = search needs
-
-same-length-12 : tie.Need-same-length-12
-same-length-12 c = search needs
-
-same-length-13 : tie.Need-same-length-13
-same-length-13 c = search needs
-
-same-length-14 : tie.Need-same-length-14
-same-length-14 c = search needs
-
 -- from the end back to that call
 abbrev Given : tie.After-slice-known9 → tie.After-slice-known7
 Given c = c .before .before .before .before
@@ -135,30 +78,28 @@ returns-4 c =
     printed-part _ _ _ _ _ _ _ (playable tested) (room tested) (Printed c .print-sound .ensures)
 
 pub lines-spec : {M : Type 1} → statement M
-lines-spec =
-    tie.close
-    (tie.spec
-    can-play-requires
-    nothing-requires
-    same-length
-    same-length-2
-    same-length-3
+lines-spec = tie.close (tie.spec
+    (λ c κs. search needs)  -- can-play-requires
+    (λ c κs. search needs)  -- nothing-requires
+    (λ c. search needs)  -- same-length
+    (λ c. search needs)  -- same-length-2
+    (λ c. search needs)  -- same-length-3
     returns
-    nothing-requires-2
-    same-length-4
-    same-length-5
-    same-length-6
+    (λ c κs. search needs)  -- nothing-requires-2
+    (λ c. search needs)  -- same-length-4
+    (λ c. search needs)  -- same-length-5
+    (λ c. search needs)  -- same-length-6
     returns-2
-    sound-requires
-    print-broken-requires
-    same-length-7
-    same-length-8
-    same-length-9
-    same-length-10
+    (λ c κs. search needs)  -- sound-requires
+    (λ c κs. (refused (c .before .before .sound .ensures) (c .before .if3 .taken), room (c .before .before .before)))  -- print-broken-requires
+    (λ c. search needs)  -- same-length-7
+    (λ c. search needs)  -- same-length-8
+    (λ c. search needs)  -- same-length-9
+    (λ c. search needs)  -- same-length-10
     returns-3
     print-sound-requires
-    same-length-11
-    same-length-12
-    same-length-13
-    same-length-14
+    (λ c. search needs)  -- same-length-11
+    (λ c. search needs)  -- same-length-12
+    (λ c. search needs)  -- same-length-13
+    (λ c. search needs)  -- same-length-14
     returns-4)

@@ -5,12 +5,6 @@ use Rattle.runner.proofs.WholeOutput.{line-printed, line-stood}
 use Rattle.runner.proofs.output.print_broken.Statement.{statement}
 use Rattle.runner.proofs.output.print_broken.Tie as tie
 
-put-broken-requires : tie.Need-put-broken-requires
-put-broken-requires c κs = search needs
-
-same-length : tie.Need-same-length
-same-length c = search needs
-
 -- from the line put back to the start
 abbrev Begun : tie.After-put-broken-arg → tie.Start
 Begun c = c .before .before .before .before
@@ -21,13 +15,17 @@ returns c =
     let start = Begun (put .before) in
     λ buys sells trades. rw (put .before .before .if1 .taken) (line-printed _ (start .pre .0) (declared (start .good .1 .0)) buys sells trades _ (put .put-broken .ensures))
 
-nothing-requires : tie.Need-nothing-requires
-nothing-requires c κs = search needs
-
 returns-2 : tie.Need-returns-2
 returns-2 c =
     let start = c .before .before .before .before in
     λ buys sells trades. rw (c .nothing .ensures) (line-stood _ (start .pre .0) (declared (start .good .1 .0)) buys sells trades _ (c .before .if1 .left))
 
 pub print-broken-spec : {M : Type 1} → statement M
-print-broken-spec = tie.close (tie.spec put-broken-requires same-length returns nothing-requires returns-2)
+print-broken-spec =
+    tie.close
+    (tie.spec
+    (λ c κs. search needs)  -- put-broken-requires
+    (λ c. search needs)  -- same-length
+    returns
+    (λ c κs. search needs)  -- nothing-requires
+    returns-2)

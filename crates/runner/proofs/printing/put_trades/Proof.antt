@@ -19,33 +19,25 @@ Inv-loop out₀ at area first count next₀ i₀ out next i =
 abbrev μ-loop : tie.MeasureT-loop
 μ-loop out₀ at area first count next₀ i₀ out next i = count - i
 
+-- back to the loop's head
+abbrev Head : tie.After-put-trade Inv-loop μ-loop → tie.At-loop Inv-loop μ-loop
+Head c = c .before .before .before .before
+
 loop-holds : tie.Need-loop-holds Inv-loop μ-loop
 loop-holds c = (omega arith, (omega arith, looser (trades-none (c .before .before .args .area .now) (c .before .before .args .first) (omega arith)) _ (omega arith)))
 
-trade-at-requires : tie.Need-trade-at-requires Inv-loop μ-loop
-trade-at-requires c κs = omega arith
-
-add-put-trade : tie.Need-add-put-trade Inv-loop μ-loop
-add-put-trade c = search needs
-
-put-trade-requires : tie.Need-put-trade-requires Inv-loop μ-loop
-put-trade-requires c κs = let w = c .before .before .before .loop .inv .1 .1 in omega (arith, w .ends, w .short, w .kept)
-
-add-i : tie.Need-add-i Inv-loop μ-loop
-add-i c = omega arith
-
-loop-less : tie.Need-loop-less Inv-loop μ-loop
-loop-less c = omega arith
-
 loop-again : tie.Need-loop-again Inv-loop μ-loop
 loop-again c =
-    let turn = c .before .before .before .before .before .before in
+    let turn = Head (c .before .before) in
     let a = turn .before .before .before .args in
-    let inv = turn .loop .inv in
-    (omega arith, (omega arith, trades-more (a .area .now) (a .first) (turn .loop .i) _ _ _ (inv .0) (omega (arith, inv .0)) (c .before .before .before .before .trade-at .ensures) (inv .1 .1) (c .before .before .put-trade .ensures)))
-
-same-length : tie.Need-same-length Inv-loop μ-loop
-same-length c = c .before .loop .inv .1 .1 .kept
+    let inv = turn .loop .inv in (
+      omega arith,
+      (
+        omega arith,
+        trades-more (a .area .now) (a .first) (turn .loop .i) _ _ _ (inv .0) (omega (arith, inv .0))
+            (c .before .before .before .before .trade-at .ensures) (inv .1 .1) (c .before .before .put-trade .ensures),
+      ),
+    )
 
 returns : tie.Need-returns Inv-loop μ-loop
 returns c =
@@ -54,17 +46,15 @@ returns c =
     rw (← trades-done (a .area .now) (a .first) (h .loop .i) (a .count) (h .loop .inv .0) (omega arith) (h .loop .inv .1 .0)) (looser (h .loop .inv .1 .1) _ (omega arith))
 
 pub put-trades-spec : {M : Type 1} → statement M
-put-trades-spec =
-    tie.close
-    (tie.spec
+put-trades-spec = tie.close (tie.spec
     Inv-loop
     μ-loop
     loop-holds
-    trade-at-requires
-    add-put-trade
-    put-trade-requires
-    add-i
-    loop-less
+    (λ c κs. omega arith)  -- trade-at-requires
+    (λ c. search needs)  -- add-put-trade
+    (λ c κs. let w = c .before .before .before .loop .inv .1 .1 in omega (arith, w .ends, w .short, w .kept))  -- put-trade-requires
+    (λ c. omega arith)  -- add-i
+    (λ c. omega arith)  -- loop-less
     loop-again
-    same-length
+    (λ c. c .before .loop .inv .1 .1 .kept)  -- same-length
     returns)

@@ -7,19 +7,27 @@ use Rattle.runner.specs.Turns.{commandMost}
 use Rattle.runner.proofs.turn.put_response.Statement.{statement}
 use Rattle.runner.proofs.turn.put_response.Tie as tie
 
+-- back to the start
+abbrev Begun : tie.After-put-trades-arg → tie.Start
+Begun c = c .before .before .before .before .before .before .before .before .before
+
+-- back to the call whose answer is `traded`
+abbrev Traded : tie.After-put-report-arg → tie.After-put-trades
+Traded c = c .before .before .before
+
 put-answer-requires : tie.Need-put-answer-requires
 put-answer-requires c κs = search needs
 
 put-trades-requires : tie.Need-put-trades-requires
 put-trades-requires c κs =
-    let p = c .before .before .before .before .before .before .before .before .before .pre in
+    let p = Begun c .pre in
     let answer = c .before .before .before .put-answer .ensures in
     omega (arith, p .1, p .0 .count, p .0 .room, answer .ends, answer .short, answer .kept)
 
 put-report-requires : tie.Need-put-report-requires
 put-report-requires c κs =
-    let p = c .before .before .before .before .before .before .before .before .before .before .before .before .before .pre in
-    let answer = c .before .before .before .before .before .before .before .put-answer .ensures in
+    let p = Begun (Traded c .before) .pre in
+    let answer = Traded c .before .before .before .before .put-answer .ensures in
     let trades = c .before .before .before .put-trades .ensures in
     omega (arith, p .1, p .0 .count, p .0 .contracts, p .0 .accounts, answer .ends, answer .short, answer .kept, trades .ends, trades .short, trades .kept)
 
@@ -28,7 +36,10 @@ same-length c = search needs
 
 returns : tie.Need-returns
 unfolding responseRows
-returns c = looser (then (c .before .before .before .before .before .before .before .before .before .before .put-answer .ensures) (then (c .before .before .before .before .before .before .put-trades .ensures) (c .before .before .put-report .ensures))) commandMost (omega (arith, c .before .before .before .before .before .before .before .before .before .before .before .before .before .before .before .before .pre .0 .count))
+returns c =
+    let traded = Traded (c .before .before .before) in
+    looser (then (traded .before .before .before .before .put-answer .ensures) (then (traded .put-trades .ensures) (c .before .before .put-report .ensures)))
+    commandMost (omega (arith, Begun (traded .before) .pre .0 .count))
 
 pub put-response-spec : {M : Type 1} → statement M
 put-response-spec =
