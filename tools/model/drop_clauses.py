@@ -12,10 +12,12 @@ definition any more (a name that is not in scope, a type that does not fit) is t
     tools/model/drop_clauses.py rules --only TEXT    the edits that are told with TEXT: a file, a definition, a word; any number of times
     tools/model/drop_clauses.py rules --list         the edits, and nothing is checked
 
-It is no part of the gate: a crate takes minutes to an hour. What it rests on must be proved already (`rt check`): the folder target/ of
-the repository is copied. Ends with 1 where an edit is unnoticed that neither list below has."""
+It is no part of the gate: an edit takes about a second of processor, most of it the prover's start, and all of them some ten minutes.
+What a crate rests on must be proved already (`rt check`): the folder target/ of the repository is copied. Ends with 1 where an edit is
+unnoticed that neither list below has."""
 
 import argparse
+import itertools
 import os
 import re
 import shutil
@@ -28,8 +30,7 @@ TOP = Path(__file__).resolve().parent.parent.parent
 CRATES = ("rules", "query", "mending", "baskets", "statements", "statefile")
 WORKED_CASES = re.compile(r"(\w*Examples|PaperDay)\.antt")
 
-# The words of theorems: what they say is held by their proofs, not by worked cases.
-THEOREMS = ("Fairness.antt", "Touches.antt")
+VERDICTS = ("noticed", "unnoticed", "noticed above", "no definition", "no difference")
 
 # Where the words stand that an edit may bring in.
 HOMES = {"leb": "lib.Dec", "ltb": "lib.Dec", "min": "Prim.Native.Nat", "max": "Prim.Native.Nat", "leZ": "lib.Signed", "ltZ": "lib.Signed"}
@@ -37,6 +38,8 @@ HOMES = {"leb": "lib.Dec", "ltb": "lib.Dec", "min": "Prim.Native.Nat", "max": "P
 # Edits that change no value on any input, by the words of the edit, with the reason.
 NO_DIFFERENCE = (
     ("conditionsRefused: dropped, the first: isLimit (o .condition) &&", "good for day without a limit is 6 in every state"),
+    ("smaller: the end of the range: ltb a b", "where the two are equal, the next step decides"),
+    ("savedSound: dropped: && all (markSound bs)", "a state that is read with another mark is not well formed"),
 )
 
 # Edits that no worked case notices, by the words of the edit, with what does.
@@ -261,7 +264,7 @@ def without_functions(source):
                 break
         source = source[: m.start()] + source[at:]
     source = re.sub(r"(?m)^\s*#\[no_mangle\]\n", "", source)
-    return re.sub(r"(?m)^use crate::[\w:]*::(\{[a-z][^}]*\}|[a-z]\w*);\n", "", source)
+    return re.sub(r"(?m)^use (?:crate|super)::(?:\w+::)*(\{[a-z][^}]*\}|[a-z]\w*);\n", "", source)
 
 
 def made_ready(name, folder):
@@ -301,47 +304,55 @@ def main():
     words.add_argument("--only", action="append", default=[], metavar="TEXT")
     words.add_argument("--list", action="store_true")
     words.add_argument("--from", dest="first", type=int, default=0, metavar="N", help="begin with the edit of this number")
-    told = words.parse_args()
+    asked = words.parse_args()
     unnoticed = 0
-    for name in told.crates or CRATES:
-        found = [e for p in sorted((TOP / "crates" / name / "specs").glob("*.antt")) if not WORKED_CASES.fullmatch(p.name) and p.name not in ("Lib.antt", *THEOREMS) for e in edits_of(p)]
-        found = [e for e in found if not told.only or any(text in str(e) for text in told.only)]
-        if told.list:
+    for name in asked.crates or CRATES:
+        found = [e for p in sorted((TOP / "crates" / name / "specs").glob("*.antt")) if not WORKED_CASES.fullmatch(p.name) and p.name != "Lib.antt" for e in edits_of(p)]
+        found = [e for e in found if not asked.only or any(text in str(e) for text in asked.only)]
+        if asked.list:
             print(*(f"{i} {e}" for i, e in enumerate(found)), sep="\n")
             continue
-        unnoticed += held(name, found, told.first)
+        unnoticed += held(name, found, asked.first)
     return 1 if unnoticed else 0
 
 
+def verdict_of(e, refused):
+    """What the places tell at which the prover refuses a crate with this edit."""
+    cases = [f for f in refused if WORKED_CASES.fullmatch(f)]
+    if any(words in str(e) for words, _ in NO_DIFFERENCE):
+        return "no difference"
+    if not refused:
+        return "noticed above" if any(words in str(e) for words, _ in ABOVE) else "unnoticed"
+    return "noticed" if len(cases) == len(refused) else "no definition"
+
+
+def told(what, verdicts):
+    """How many edits there are of each verdict, in a line."""
+    counted = (f"{verdicts.count(v)} {v}" for v in VERDICTS if v in verdicts)
+    print(f"{what}: {len(verdicts)} edits, {', '.join(counted)}", flush=True)
+
+
 def held(name, found, first):
-    counts = {"noticed": 0, "unnoticed": 0, "noticed above": 0, "no definition": 0, "no difference": 0}
+    """Each edit in turn held to the worked cases of its crate, told file by file. How many are unnoticed."""
+    verdicts = []
     with tempfile.TemporaryDirectory() as folder:
         crate = made_ready(name, Path(folder))
         refused = checked(name, folder)
         if refused:
             sys.exit(f"{name}: refused before any edit, in {', '.join(sorted(set(refused)))}")
-        for i, e in enumerate(found):
-            if i < first:
-                continue
-            at = crate / "specs" / e.path.name
-            source = at.read_text()
-            at.write_text(e.apply(source))
-            refused = checked(name, folder)
-            at.write_text(source)
-            cases = [f for f in refused if WORKED_CASES.fullmatch(f)]
-            if any(words in str(e) for words, _ in NO_DIFFERENCE):
-                verdict = "no difference"
-            elif not refused and any(words in str(e) for words, _ in ABOVE):
-                verdict = "noticed above"
-            elif [f for f in refused if f not in cases]:
-                verdict = "no definition"
-            else:
-                verdict = "noticed" if cases else "unnoticed"
-            counts[verdict] += 1
-            if verdict != "noticed":
-                print(f"{verdict}: {i} {e}", flush=True)
-    print(f"{name}: {len(found)} edits, " + ", ".join(f"{n} {v}" for v, n in counts.items()), flush=True)
-    return counts["unnoticed"]
+        for file, edits in itertools.groupby(list(enumerate(found))[first:], lambda numbered: numbered[1].path.name):
+            of_file = []
+            source = (crate / "specs" / file).read_text()
+            for i, e in edits:
+                (crate / "specs" / file).write_text(e.apply(source))
+                of_file.append(verdict_of(e, checked(name, folder)))
+                if of_file[-1] != "noticed":
+                    print(f"{of_file[-1]}: {i} {e}", flush=True)
+            (crate / "specs" / file).write_text(source)
+            told(f"{name}/specs/{file}", of_file)
+            verdicts += of_file
+    told(name, verdicts)
+    return verdicts.count("unnoticed")
 
 
 if __name__ == "__main__":

@@ -29,6 +29,9 @@ side sell = pick sell (f 1) 2
 
 FUNCTIONS = """use rules::State;
 use crate::other::helper;
+use crate::helper_of_the_crate;
+use super::other::helper_beside;
+use crate::other::Kept;
 
 pub struct Ran {
     pub played: usize,
@@ -87,6 +90,7 @@ class Sources(unittest.TestCase):
         left = drop_clauses.without_functions(FUNCTIONS)
         self.assertNotIn("fn run", left)
         self.assertNotIn("helper", left)
+        self.assertIn("use crate::other::Kept;", left)
         self.assertIn("pub struct Ran", left)
         self.assertIn("pub const MOST", left)
         self.assertEqual(left.count("{"), left.count("}"))

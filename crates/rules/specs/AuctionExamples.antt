@@ -8,7 +8,7 @@ use lib.IntN.{pos}
 use lib.ListN.{length, getD}
 use Rattle.laws.specs.Sums.{sumOf}
 use Rattle.rules.specs.Auction.{Matched, auctionMatch, auctionPrice, bestFrom, bestOf, better, chosenPrice, lotsReaching, matchAt, matchIn, matchOf, prices, surplus, tradeAt, volume}
-use Rattle.rules.specs.Answers.{changeListed, firstOf, listingOf, phaseRefusals, takerOf}
+use Rattle.rules.specs.Answers.{changeListed, firstOf, listingOf, mark, phaseRefusals, takerOf}
 use Rattle.rules.specs.Bounds.{auction, continuous, noTrading}
 use Rattle.rules.specs.Condition3.{madeBy}
 use Rattle.rules.specs.Examples.{Row, _gives_, allRight}
@@ -172,6 +172,8 @@ table =
     -- the higher of two as near, though the lower is met first; a larger volume, though its surplus is larger too
     ∷ (auctionPrice 105 (order 1 108 2 ∷ order 2 104 3 ∷ []) (order 3 102 2 ∷ order 4 106 3 ∷ []) gives 106)
     ∷ (auctionPrice 110 (order 3 112 9 ∷ []) (order 1 110 7 ∷ order 2 112 5 ∷ []) gives 112)
+    -- no price is preferred to itself
+    ∷ (mark (better 100 buysTie sellsTie 101 101) gives 0)
     -- with sells left over at both, 001 would take the lowest, 101; with none left over it takes the nearest too
     ∷ (auctionPrice 106 (order 1 105 1 ∷ []) (order 2 101 2 ∷ []) gives 105)
     ∷ (auctionPrice 103 (order 1 105 1 ∷ []) sellsTie gives 105)
@@ -179,6 +181,8 @@ table =
     ∷ (auctionPrice 100 buysApart sellsTie gives 0)
     ∷ (length (auctionMatch 0 100 buysApart sellsTie .trades) gives 0)
     ∷ (auctionPrice 100 [] sellsTie gives 0)
+    -- an order without lots, which no well-formed state has, makes no volume, so no trade
+    ∷ (length (auctionMatch 0 100 (order 1 105 0 ∷ []) sellsTie .trades) gives 0)
     ∷ (auctionPrice 100 [] [] gives 0)
     -- 000's trades: 5 and 5 with the sell at 1607, 5 with the one at 1608, of which 1 lot stays; all at 1608
     ∷ (length (auctionMatch 0 1610 buys000 sells000 .trades) gives 3)

@@ -3,17 +3,17 @@
 use mathlib.Core.Bool.{Bool, true, false}
 use mathlib.Core.List.{List, [], _∷_}
 use mathlib.Core.Path.{_≡_, refl}
-use Prim.Native.Nat.{ℕ, _+_}
+use Prim.Native.Nat.{ℕ, _+_, _-_, _*_, _^_}
 use lib.IntN.{pos}
 use lib.ListN.{replicate}
 use Rattle.laws.specs.Choice.{all, allOf}
 use Rattle.laws.specs.Sums.{sumOf}
 use Rattle.laws.specs.Tabulate.{tabulate}
-use Rattle.rules.specs.Answers.{amountRefused, cancelRefusals, changeListed, depositRefusals, fillableLots, firstOf, insertRefusals, leavesTooLittle, liftsTooHigh, listingOf, holdingRefused, moneyRefused, noSuchOrder, numbered, ofAnother, phaseRefusals, priceRefusedBy, pullRefusals, removalRefused, restingOrder, settleRefusals, takerOf, tradesNeeded, tradesRefused, withdrawRefusals, conditionsRefused, takesOrders, orderRefusals, lotsRefused, tradesAgainst}
+use Rattle.rules.specs.Answers.{amountRefused, cancelRefusals, changeListed, depositRefusals, fillableLots, firstOf, insertRefusals, leavesTooLittle, liftsTooHigh, listingOf, holdingRefused, mark, moneyRefused, noSuchOrder, numbered, ofAnother, phaseRefusals, priceRefusedBy, pullRefusals, removalRefused, restingOrder, settleRefusals, takerOf, tradesNeeded, tradesRefused, withdrawRefusals, conditionsRefused, takesOrders, orderRefusals, lotsRefused, tradesAgainst}
 use Rattle.rules.specs.Bounds.{allowedToday, dayHigh, dayLow, onTick, auction, closed, continuous, noTrading, preOpen}
 use Rattle.rules.specs.Auction.{auctionMatch, bestFrom, bestOf, better, chosenPrice, lotsReaching, matchAt, matchIn, matchOf, prices, surplus, tradeAt, volume}
 use Rattle.rules.specs.Change.{changeRefusals}
-use Rattle.rules.specs.Command.{bits, changeOf, commandOf, depositOf, insertFlags, insertOf, newOrder, phaseOf, priceCondition, settleOf, timeCondition, withdrawOf, zeros}
+use Rattle.rules.specs.Command.{bits, cancelOf, changeOf, commandOf, depositOf, insertFlags, insertOf, kindNumber, newOrder, phaseOf, priceCondition, pullOf, settleOf, timeCondition, withdrawOf, zeros}
 use Rattle.rules.specs.Examples.{Row, _gives_, allRight}
 use Rattle.rules.specs.Exchange.{Exchange, absent, accountAt, bestPrice, holdingAt, listingAt, lotsWhere, noHolding, noTrade, resting}
 use Rattle.rules.specs.Holdings.{afterLeg, bookLeg}
@@ -69,6 +69,22 @@ open′ = asked continuous 0 0 100 0
 stamps : ℕ → Exchange
 stamps nextstamp =
     record { listings = open′ .listings; accounts = open′ .accounts; trades = []; next = 100; nextstamp = nextstamp; settlements = 0 }
+
+-- that with account 1's balance
+balanced : ℕ → Exchange
+balanced balance =
+    record {
+      listings = open′ .listings;
+      accounts = record { balance = pos balance; maker = 0; holdings = noHolding ∷ [] } ∷ [];
+      trades = [];
+      next = 100;
+      nextstamp = 100;
+      settlements = 0;
+    }
+
+-- to which of the states 0 to 4 one may be changed: five digits, 1 where it may
+changesFrom : ℕ → ℕ
+changesFrom from = sumOf (λ to. mark (changeListed from to) * 10 ^ (4 - to)) (0 ∷ 1 ∷ 2 ∷ 3 ∷ 4 ∷ [])
 
 -- the contract in auction, a buy of 9 at 112 resting too, so many trades made: its match makes two trades
 crossed : ℕ → Exchange
@@ -187,11 +203,21 @@ codes =
     ∷ (codeOf open′ (Deposit 1 0) gives 16)
     ∷ (codeOf open′ (Deposit 1 1_000_000_000_000_000) gives 0)
     ∷ (codeOf open′ (Deposit 1 1_000_000_000_000_001) gives 16)
+    ∷ (codeOf open′ (Withdraw 3 0) gives 2)
     ∷ (codeOf open′ (Withdraw 2 1_000_000_000_000_001) gives 16)
     ∷ (codeOf open′ (Withdraw 2 331) gives 9)
     ∷ (codeOf open′ (Withdraw 2 330) gives 0)
     ∷ (codeOf open′ (Withdraw 1 1_098_681) gives 9)
     ∷ (codeOf open′ (Withdraw 1 1_098_680) gives 0)
+    -- "or deposit lifts the balance above 10^18": it may reach it
+    ∷ (codeOf (balanced 999_999_999_999_999_995) (Deposit 1 5) gives 0)
+    ∷ (codeOf (balanced 999_999_999_999_999_995) (Deposit 1 6) gives 16)
+    -- "State changes ..: 0 to 1, 0 to 3, 1 to 2, 2 to 1, 1 to 3, 2 to 3", 0 to 4, 4 to 1, and no other
+    ∷ (changesFrom preOpen gives 1_011)
+    ∷ (changesFrom continuous gives 110)
+    ∷ (changesFrom noTrading gives 1_010)
+    ∷ (changesFrom closed gives 0)
+    ∷ (changesFrom auction gives 1_000)
     -- state: contract before change; no change to the same state
     ∷ (codeOf open′ (Phase 2 continuous) gives 3)
     ∷ (codeOf open′ (Phase 1 continuous) gives 17)
@@ -231,6 +257,24 @@ codes =
     ∷ (codeOf open′ (commandOf (raw 7 0 0 0 1)) gives 1)
     ∷ (codeOf open′ (commandOf (paying 3 0 1)) gives 1)
     ∷ (codeOf open′ (commandOf (raw 10 1 1 0 0)) gives 1)
+    -- an unknown state is no command, not a state command that is refused; its lots are unused
+    ∷ (kindNumber (commandOf (raw 6 0 9 5 0)) gives 0)
+    ∷ (kindNumber (commandOf (raw 6 0 9 4 0)) gives 6)
+    ∷ (codeOf open′ (commandOf (raw 6 0 1 closed 1)) gives 1)
+    -- "limit 0, market 1, best 2", "immediate or cancel 1, fill or kill 2": of 12 lots at 110 and 112 market fills all, best 7; of 13
+    -- immediate or cancel takes what there is
+    ∷ (codeOf open′ (commandOf (raw 3 1 1 36 12)) gives 0)
+    ∷ (codeOf open′ (commandOf (raw 3 1 1 40 12)) gives 11)
+    ∷ (codeOf open′ (commandOf (raw 3 1 1 36 13)) gives 11)
+    ∷ (codeOf open′ (commandOf (raw 3 1 1 20 13)) gives 0)
+    -- "Cancel and pull flags: bit 0 operator, the rest zero."; their lots are unused
+    ∷ (codeOf open′ (commandOf (raw 4 1 1 1 0)) gives 14)
+    ∷ (codeOf open′ (commandOf (raw 4 1 1 2 0)) gives 1)
+    ∷ (codeOf open′ (commandOf (raw 4 1 1 0 1)) gives 1)
+    ∷ (codeOf open′ (commandOf (raw 5 1 1 0 0)) gives 0)
+    ∷ (codeOf open′ (commandOf (raw 5 1 1 1 0)) gives 0)
+    ∷ (codeOf open′ (commandOf (raw 5 1 1 2 0)) gives 1)
+    ∷ (codeOf open′ (commandOf (raw 5 1 1 0 1)) gives 1)
     -- kind 1 pays in, kind 2 pays out
     ∷ (codeOf open′ (commandOf (paying 1 2 331)) gives 0)
     ∷ (codeOf open′ (commandOf (paying 2 2 331)) gives 9)
@@ -241,5 +285,5 @@ codes =
     ∷ []
 
 pub code-examples : allRight codes ≡ true
-unfolding allRight codes contract order rich poor asked open′ stamps buy sell raw paying absent accountAt afterLeg all allOf allowedToday amountRefused bestPrice bits bookLeg cancelRefusals changeListed changeOf changeRefusals chargeOf chargedLots chargedTo codeOf commandOf dayHigh dayLow depositOf depositRefusals fillable fillableLots firstOf holdingAt insertFlags insertOf insertRefusals kindOf leavesTooLittle liftsTooHigh listingAt listingOf holdingRefused lotsWhere meets methodOf middle pairedPrice moneyRefused newOrder noSuchOrder numbered ofAnother onTick lotsRefused tradesAgainst phaseOf phaseRefusals priceCondition priceRefusedBy pullRefusals removalRefused resting restingOrder settleOf settleRefusals stays sumOf sweep tabulate takerOf timeCondition tradePrice tradeWith tradesNeeded tradesRefused withdrawOf withdrawRefusals zeros crossed auctionMatch bestFrom bestOf better chosenPrice conditionsRefused lotsReaching matchAt matchIn matchOf prices surplus takesOrders tradeAt volume orderRefusals
+unfolding allRight codes contract order rich poor asked open′ stamps balanced changesFrom buy sell raw paying absent accountAt afterLeg all allOf allowedToday amountRefused bestPrice bits bookLeg cancelOf cancelRefusals changeListed changeOf changeRefusals chargeOf chargedLots chargedTo codeOf commandOf dayHigh dayLow depositOf depositRefusals fillable fillableLots firstOf holdingAt insertFlags insertOf insertRefusals kindOf leavesTooLittle liftsTooHigh listingAt listingOf holdingRefused lotsWhere meets methodOf middle pairedPrice moneyRefused newOrder noSuchOrder numbered ofAnother onTick lotsRefused tradesAgainst phaseOf phaseRefusals priceCondition priceRefusedBy pullOf pullRefusals removalRefused resting restingOrder settleOf settleRefusals stays sumOf sweep tabulate takerOf timeCondition tradePrice tradeWith tradesNeeded tradesRefused withdrawOf withdrawRefusals zeros crossed auctionMatch bestFrom bestOf better chosenPrice conditionsRefused lotsReaching matchAt matchIn matchOf prices surplus takesOrders tradeAt volume orderRefusals
 code-examples = refl

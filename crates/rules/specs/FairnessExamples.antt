@@ -6,10 +6,11 @@ use Prim.Native.Nat.{ℕ, _+_}
 use native.Mathlib.Omega.{arith}
 use Rattle.laws.specs.Choice.{pick, allOf}
 use Rattle.laws.specs.Sums.{sumOf}
-use Rattle.rules.specs.Auction.{Matched, auctionMatch, bestFrom, bestOf, better, chosenPrice, lotsReaching, matchAt, matchIn, prices, surplus, tradeAt, volume}
+use Rattle.rules.specs.Auction.{Matched, auctionMatch, bestFrom, bestOf, better, chosenPrice, lotsReaching, matchAt, matchIn, prices, restingPrices, surplus, tradeAt, volume}
+use Rattle.rules.specs.AuctionFairness.{leftOn, lotsAllowed, oneOf}
 use Rattle.rules.specs.Examples.{Row, _gives_, allRight}
 use Rattle.rules.specs.Exchange.{bestPrice, lotsWhere}
-use Rattle.rules.specs.Fairness.{BetweenSellAndBuy, isGone, allLots, lotsNumbered, lotsTraded, tradeOf}
+use Rattle.rules.specs.Fairness.{BetweenSellAndBuy, accountOn, isGone, allLots, lotsNumbered, lotsTraded, orderOn, tradeOf}
 use Rattle.rules.specs.Matching.{Entered, Swept, average, enter, fillable, meets, middle, pairedPrice, remainder, restIn, restLots, restedLots, stays, sweep, tradePrice, tradeWith, tradedLots}
 use Rattle.rules.specs.declared.Order.{Order}
 use Rattle.rules.specs.declared.PairingMethod.{PairingMethod}
@@ -68,6 +69,7 @@ table =
     ∷ (lotsTraded true 2 (swept Middle (Limit 112) 9 .trades) gives 2)
     ∷ (lotsTraded true 3 (swept Middle (Limit 112) 9 .trades) gives 0)
     ∷ (holds (isGone 1 (swept Middle (Limit 112) 9 .rest)) gives 1)
+    ∷ (holds (isGone 2 (swept Middle (Limit 112) 9 .rest)) gives 0)
     -- 9: of 20 lots with a limit of 111 4 are left over, and no order of the book is a counterpart; 112 is left
     ∷ (tradedLots (swept Middle (Limit 111) 20 .trades) gives 16)
     ∷ (fillable (buyer Middle (Limit 111)) (swept Middle (Limit 111) 20 .rest) gives 0)
@@ -78,6 +80,10 @@ table =
     ∷ (price (swept Middle (Limit 112) 9) 0 gives 112)
     ∷ (price (swept (Average 1) (Limit 112) 9) 0 gives 111)
     ∷ (price (swept FirstIn (Limit 112) 9) 0 gives 110)
+    -- trade 0 is with order 1, of account 1; the buyer is account 0
+    ∷ (orderOn true (tradeOf (swept Middle (Limit 112) 9 .trades) 0) gives 1)
+    ∷ (accountOn true (tradeOf (swept Middle (Limit 112) 9 .trades) 0) gives 1)
+    ∷ (accountOn false (tradeOf (swept Middle (Limit 112) 9 .trades) 0) gives 0)
     -- market and best at the resting price, whatever the last; best at 110 alone, though 111 is next
     ∷ (price (swept Middle Market 13) 0 gives 110)
     ∷ (price (swept Middle Market 13) 2 gives 111)
@@ -96,6 +102,10 @@ table =
     ∷ (volume buys offers 110 gives 7)
     ∷ (surplus buys offers 110 gives 2)
     ∷ (volume buys offers 111 gives 7)
+    -- the resting prices are 112, 109 and 110
+    ∷ (holds (oneOf (restingPrices buys offers) 112) gives 1)
+    ∷ (holds (oneOf (restingPrices buys offers) 110) gives 1)
+    ∷ (holds (oneOf (restingPrices buys offers) 111) gives 0)
     -- whichever order they are looked at
     ∷ (bestOf (better 110 buys offers) (109 ∷ 110 ∷ 112 ∷ []) gives 112)
     ∷ (bestOf (better 110 buys offers) (112 ∷ 110 ∷ 109 ∷ []) gives 112)
@@ -107,12 +117,17 @@ table =
     ∷ (lotsTraded true 4 (matched .trades) gives 2)
     ∷ (lotsTraded false 2 (matched .trades) gives 0)
     ∷ (allLots (matched .sells) gives 3)
+    -- at 112 buy 1 may trade its 9 lots and buy 2 none; it is what is left of the buys, and 3 lots of sell 4 of the sells
+    ∷ (lotsAllowed false 112 1 buys gives 9)
+    ∷ (lotsAllowed false 112 2 buys gives 0)
+    ∷ (bestPrice (leftOn false matched) gives 109)
+    ∷ (bestPrice (leftOn true matched) gives 112)
     -- the most at one price: 10 lots, though 20 could trade at two prices, 80 to 90 and 95 to 100
     ∷ (tradedLots (auctionMatch 0 90 twoBuys twoSells .trades) gives 10)
     ∷ []
 
 pub fairness-examples : allRight table ≡ true
-unfolding allRight table order sells buyer swept entered price holds buys offers matched twoBuys twoSells allOf sumOf lotsWhere bestPrice average enter fillable meets middle pairedPrice remainder restIn restLots restedLots stays sweep tradePrice tradeWith tradedLots prices lotsReaching volume surplus better bestFrom bestOf chosenPrice tradeAt matchIn matchAt auctionMatch
+unfolding allRight table order sells buyer swept entered price holds buys offers matched twoBuys twoSells oneOf allOf sumOf lotsWhere bestPrice average enter fillable meets middle pairedPrice remainder restIn restLots restedLots stays sweep tradePrice tradeWith tradedLots prices lotsReaching volume surplus better bestFrom bestOf chosenPrice tradeAt matchIn matchAt auctionMatch
 fairness-examples = refl
 
 -- 10, at its ends: a buy with a limit of 112 that meets a sell at 110 may trade at 112 and at 110

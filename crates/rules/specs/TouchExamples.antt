@@ -9,9 +9,10 @@ use lib.ListN.{length, getD}
 use Rattle.laws.specs.Choice.{allOf}
 use Rattle.laws.specs.Sums.{sumOf}
 use Rattle.laws.specs.Tabulate.{tabulate}
-use Rattle.rules.specs.Answers.{amountRefused, cancelRefusals, conditionsRefused, dayLimitOrder, depositRefusals, fillableLots, firstOf, holdingRefused, insertRefusals, leavesTooLittle, liftsTooHigh, listingOf, lotsRefused, moneyRefused, noSuchOrder, numbered, ofAnother, orderRefusals, priceRefusedBy, pullRefusals, removalRefused, restingOrder, takerOf, takesOrders, tradesAgainst, tradesNeeded, tradesRefused, withdrawRefusals}
+use Rattle.rules.specs.Answers.{amountRefused, cancelRefusals, conditionsRefused, dayLimitOrder, depositRefusals, fillableLots, firstOf, holdingRefused, insertRefusals, leavesTooLittle, liftsTooHigh, listingOf, lotsRefused, mark, moneyRefused, noSuchOrder, numbered, ofAnother, orderRefusals, priceRefusedBy, pullRefusals, removalRefused, restingOrder, takerOf, takesOrders, tradesAgainst, tradesNeeded, tradesRefused, withdrawRefusals}
 use Rattle.rules.specs.Bounds.{allowedToday, continuous, dayHigh, dayLow, onTick}
 use Rattle.rules.specs.Change.{arriving, changeRefusals, changed, gone, isSell, losesPlace, oldOrder, placeLost, reentered}
+use Rattle.rules.specs.Command.{isPayment}
 use Rattle.rules.specs.Examples.{Row, _gives_, allRight, up}
 use Rattle.rules.specs.Exchange.{Exchange, absent, accountAt, bestPrice, heldAt, holderAt, holdingAt, listingAt, lotsWhere, noHolding, noOrder, noTrade, own, resting}
 use Rattle.rules.specs.Holdings.{afterLeg, bookLeg, bookTrade, bookTrades}
@@ -20,6 +21,7 @@ use Rattle.rules.specs.Margin.{chargeOf, chargedLots, chargedTo}
 use Rattle.rules.specs.Matching.{enter, fillable, lastPrice, meets, methodOf, middle, pairedPrice, remainder, restIn, restLots, restedLots, stays, sweep, tradePrice, tradeWith, tradedLots}
 use Rattle.rules.specs.Quote.{half, quoteRefusals, quoted, withBuy, withSell, withoutQuote}
 use Rattle.rules.specs.Step.{cancelled, deposited, enteredOf, exchangeAfter, inserted, listingAfter, paid, pulled, removed, withdrawn, without}
+use Rattle.rules.specs.Touches.{ordersOf, ordersWhere}
 use Rattle.rules.specs.declared.Account.{Account}
 use Rattle.rules.specs.declared.Command.{Command}
 use Rattle.rules.specs.declared.Command.the-variants.{Cancel, Change, Deposit, Insert, Pull, Quote, Withdraw}
@@ -99,6 +101,9 @@ table =
     ∷ (rest (after (Pull 1 1 false)) 0 true gives 1)
     ∷ (at (after (Pull 1 1 false)) 0 true 0 .number gives 4)
     ∷ (rest (after (Pull 1 1 false)) 1 false gives 1)
+    -- of account 2 order 2 rests among the buys, before it and after it
+    ∷ (getD (ordersOf 1 (own false (listingAt state 0))) 0 noOrder .number gives 2)
+    ∷ (getD (ordersOf 1 (own false (listingAt (after (Pull 1 1 false)) 0))) 0 noOrder .number gives 2)
     -- a cancel of order 3 takes that one; account 1 cannot cancel order 4, which is account 2's
     ∷ (rest (after (Cancel 1 1 false 3)) 0 true gives 1)
     ∷ (rest (after (Cancel 1 1 false 3)) 0 false gives 2)
@@ -123,6 +128,10 @@ table =
     ∷ (balance (after (buys 5 101)) 1 gives 10_000)
     ∷ (heldAt (after (buys 5 101)) 1 0 .short gives 2)
     ∷ (heldAt (after (buys 5 101)) 2 0 .long gives 5)
+    -- deposit and withdraw are the payments
+    ∷ (mark (isPayment (Deposit 2 400)) gives 1)
+    ∷ (mark (isPayment (Withdraw 2 400)) gives 1)
+    ∷ (mark (isPayment (buys 5 101)) gives 0)
     -- 7. an insert gets number 7, a quote 7 and 8, a change of order 1's price keeps number 1 and gets the time stamp 7
     ∷ (at (after (buys 1 98)) 0 false 2 .number gives 7)
     ∷ (after (buys 1 98) .next gives 8)
@@ -136,5 +145,5 @@ table =
     ∷ []
 
 pub touch-examples : allRight table ≡ true
-unfolding allRight table order contract account state after rest at balance buys offers up absent accountAt afterLeg allOf allowedToday amountRefused arriving bestPrice bookLeg bookTrade bookTrades cancelRefusals cancelled chargeOf chargedLots chargedTo changeRefusals changed codeOf conditionsRefused dayHigh dayLow decide depositRefusals deposited enter enteredOf exchangeAfter fillable fillableLots firstOf gone half holdingAt holdingRefused insertRefusals inserted isSell kindOf lastPrice leavesTooLittle liftsTooHigh listingAfter listingAt listingOf losesPlace lotsRefused lotsWhere meets methodOf middle moneyRefused noSuchOrder numbered ofAnother oldOrder onTick orderRefusals paid pairedPrice placeLost priceRefusedBy pullRefusals pulled quoteRefusals quoted reentered remainder removalRefused removed restIn restLots restedLots resting restingOrder stays step sumOf sweep tabulate takerOf takesOrders tradePrice tradeWith tradedLots tradesAgainst tradesNeeded tradesRefused withBuy withSell withdrawRefusals withdrawn without withoutQuote
+unfolding allRight table order contract account state after rest at balance buys offers up absent accountAt afterLeg allOf allowedToday amountRefused arriving bestPrice bookLeg bookTrade bookTrades cancelRefusals cancelled chargeOf chargedLots chargedTo changeRefusals changed codeOf conditionsRefused dayHigh dayLow decide depositRefusals deposited enter enteredOf exchangeAfter fillable fillableLots firstOf gone half holdingAt holdingRefused insertRefusals inserted isSell kindOf lastPrice leavesTooLittle liftsTooHigh listingAfter listingAt listingOf losesPlace lotsRefused lotsWhere meets methodOf middle moneyRefused noSuchOrder numbered ofAnother oldOrder onTick orderRefusals ordersWhere paid pairedPrice placeLost priceRefusedBy pullRefusals pulled quoteRefusals quoted reentered remainder removalRefused removed restIn restLots restedLots resting restingOrder stays step sumOf sweep tabulate takerOf takesOrders tradePrice tradeWith tradedLots tradesAgainst tradesNeeded tradesRefused withBuy withSell withdrawRefusals withdrawn without withoutQuote
 touch-examples = refl

@@ -8,12 +8,14 @@ use lib.IntN.{ℤ, pos, negℤ}
 use lib.ListN.{replicate}
 use Rattle.laws.specs.Choice.{all, allOf}
 use Rattle.laws.specs.Sums.{sumOf}
+use Rattle.laws.specs.Tabulate.{tabulate}
+use Rattle.areas.specs.Records.{decode, records}
 use Rattle.rules.specs.Bounds.{allowedToday, dayHigh, dayLow, onTick, termsInRange, tickMultiple, auction, closed, continuous, noTrading, preOpen}
 use Rattle.rules.specs.Examples.{Row, _gives_, allRight}
 use Rattle.rules.specs.Exchange.{Exchange, Listing, accountAt, holdingAt, listingAt, lotsWhere, noHolding, resting}
 use Rattle.rules.specs.Holdings.{afterLeg, bookLeg, bookTrade, bookTrades, legCovered, neverBelowZero, sameHoldings, sameLots, startOfDay}
 use Rattle.rules.specs.Answers.{mark}
-use Rattle.rules.specs.Memory.{Memory, memory, countsInRange, hasRoom}
+use Rattle.rules.specs.Memory.{Memory, countsInRange, exchangeOf, hasRoom, listingIn, memory, queueIn, recordedTrades, wellFormedMemory}
 use Rattle.rules.specs.WellFormed.{ahead, aheadOfFirst, allListed, balanceInRange, contractInRange, countersInRange, heldInRange, holdingInRange, holdingsInRange, listed, listingQuoted, markAllowed, markInRange, orderInRange, ordersInRange, queueQuoted, queuesSorted, quotes, rangesKept, replays, restingInRange, sorted, tradeInRange, uncrossed, usedOnce, wellFormedContents}
 use Rattle.rules.specs.declared.Account.{Account}
 use Rattle.rules.specs.declared.Contract.{Contract}
@@ -93,8 +95,10 @@ table =
     ∷ (test 111 buys sells trades 3 8 (pos 0) gives 0)
     ∷ (test 110 [] [] trades 3 0 (pos 0) gives 0)
     ∷ (test 110 buys sells trades 3 7 (pos 0) gives 0)
-    -- a queue out of order, by price and by time stamp; a crossed book
+    -- a queue out of order, by price, behind its first two orders, among the sells, and by time stamp; a crossed book
     ∷ (test 110 (order 6 106 1 1 ∷ order 3 108 4 0 ∷ []) sells trades 3 8 (pos 0) gives 0)
+    ∷ (test 110 (order 3 108 4 0 ∷ order 6 106 1 1 ∷ order 4 108 4 0 ∷ []) sells trades 3 8 (pos 0) gives 0)
+    ∷ (test 110 buys (order 7 112 2 1 ∷ order 5 110 7 0 ∷ []) trades 3 8 (pos 0) gives 0)
     ∷ (test 110 (order 4 108 4 0 ∷ order 3 108 4 0 ∷ []) sells trades 3 8 (pos 0) gives 0)
     ∷ (test 110 (order 3 110 4 0 ∷ []) sells trades 3 8 (pos 0) gives 0)
     -- that in auction, the one state in which it may be; a queue out of order in auction; a state that is unknown
@@ -177,6 +181,10 @@ lying queue day = memory (counts 1 2 0 0 0) (replicate queue 0) (replicate queue
 -- the buys' area, and the sells', of so many words
 sides : ℕ → ℕ → Memory
 sides buywords sellwords = memory (counts 1 2 0 0 0) (replicate buywords 0) (replicate sellwords 0) (replicate 9_216 0)
+
+-- areas with just the room that one contract needs, 1 where the whole is well formed
+whole : State → ℕ
+whole s = mark (wellFormedMemory (memory s (replicate 448 0) (replicate 448 0) (replicate 9_216 0)))
 
 -- account 1 starts with 2 long and 3 short and sells so many to close, account 2 buys them to open
 replayed : ℕ → Exchange
@@ -282,6 +290,8 @@ laid =
     ∷ (across 1 2 2 1 gives 1)
     ∷ (across 1 1 1 2 gives 0)
     ∷ (across 1 1 2 1 gives 0)
+    ∷ (mark (usedOnce (1 ∷ 2 ∷ 3 ∷ [])) gives 1)
+    ∷ (mark (usedOnce (1 ∷ 2 ∷ 2 ∷ [])) gives 0)
     -- counts and room
     ∷ (mark (countsInRange (counts 4 32 1_024 64 64)) gives 1)
     ∷ (mark (countsInRange (counts 5 32 1_024 64 64)) gives 0)
@@ -297,6 +307,11 @@ laid =
     ∷ (mark (hasRoom (lying 448 9_215)) gives 0)
     ∷ (mark (hasRoom (sides 447 448)) gives 0)
     ∷ (mark (hasRoom (sides 448 447)) gives 0)
+    -- counts, room and contents together: no account is there, a trade of no lots is recorded, a word of room is missing
+    ∷ (whole (counts 1 2 0 0 0) gives 1)
+    ∷ (whole (counts 1 0 0 0 0) gives 0)
+    ∷ (whole (counts 1 2 1 0 0) gives 0)
+    ∷ (mark (wellFormedMemory (lying 448 9_215)) gives 0)
     -- a close of what is held, and of one lot more: the short lots do not cover it
     ∷ (mark (replays (replayed 2)) gives 1)
     ∷ (mark (replays (replayed 3)) gives 0)
@@ -326,10 +341,15 @@ laid =
     ∷ (mark (countersInRange (counting 1 1_000_001 0)) gives 0)
     ∷ (mark (countersInRange (counting 1 0 0)) gives 0)
     ∷ (mark (countersInRange (counting 1 1 251)) gives 0)
+    ∷ (mark (wellFormedContents (counting 1 1 250)) gives 1)
+    ∷ (mark (wellFormedContents (counting 1 1 251)) gives 0)
+    -- at one price the lower time stamp is ahead, and no order is ahead of itself
+    ∷ (mark (ahead true (marked 6 0) (marked 7 0)) gives 1)
+    ∷ (mark (ahead true (marked 7 0) (marked 7 0)) gives 0)
     ∷ []
 
 pub laid-examples : allRight laid ≡ true
-unfolding allRight laid contract account terms starting across counts lying sides replayed closing same marked numbered counting all allOf sumOf ahead aheadOfFirst allListed balanceInRange contractInRange heldInRange holdingInRange holdingsInRange listed listingAt listingQuoted lotsWhere markAllowed markInRange ordersInRange queueQuoted queuesSorted quotes rangesKept resting restingInRange sorted termsInRange tickMultiple tradeInRange uncrossed usedOnce wellFormedContents accountAt afterLeg allowedToday bookLeg bookTrade bookTrades countersInRange countsInRange dayHigh dayLow hasRoom holdingAt legCovered neverBelowZero onTick orderInRange replays sameHoldings sameLots startOfDay
+unfolding allRight laid contract account terms starting across counts lying sides whole replayed closing same marked numbered counting all allOf sumOf ahead aheadOfFirst allListed balanceInRange contractInRange heldInRange holdingInRange holdingsInRange listed listingAt listingQuoted lotsWhere markAllowed markInRange ordersInRange queueQuoted queuesSorted quotes rangesKept resting restingInRange sorted termsInRange tickMultiple tradeInRange uncrossed usedOnce wellFormedContents accountAt afterLeg allowedToday bookLeg bookTrade bookTrades countersInRange countsInRange dayHigh dayLow hasRoom holdingAt legCovered neverBelowZero onTick orderInRange replays sameHoldings sameLots startOfDay tabulate decode records exchangeOf listingIn queueIn recordedTrades wellFormedMemory
 laid-examples = refl
 
 -- ---- quote marks: accounts 1 and 2, each long 2 lots, makers or not
