@@ -2,19 +2,19 @@
 -- rules say. Assumes nothing.
 use mathlib.Core.Bool.{Bool, true, false, not, true≢false, _&&_}
 use mathlib.Core.List.{List, [], _∷_, _++_}
-use mathlib.Core.Path.{_≡_, refl, sym, ap, subst, _∙_}
+use mathlib.Core.Path.{_≡_, refl, sym, ap, subst, subst⁻¹, _∙_}
 use Prim.Native.Nat.{ℕ, _+_, _-_, _<_, _≤_}
 use native.Mathlib.Omega.{arith}
 use borrow.Author.Tests.{eq-eqb, leb-false, ltb-false, ne-eqb}
 use lib.Dec.{eqb}
 use lib.ListN.{length, getD, set, length-set}
-use lib.Seq.{getD-set-same, set-getD}
+use lib.Seq.{set-getD, set-set}
 use Rattle.laws.specs.Choice.{pick}
 use Rattle.areas.specs.Lists.{removeAt}
 use Rattle.areas.proofs.Lists.{length-removeAt}
 use Rattle.rules.specs.Answers as rules
 use Rattle.rules.specs.Answers.{Refusal, cancelRefusals, dayLimitOrder, firstOf, listingOf, namedRefusals, noSuchOrder, notContinuous, numbered, ofAnother, ownerRefusals, pullRefusals, restingOrder}
-use Rattle.rules.specs.Bounds.{maxResting, numbersEnd, maxLots, maxContracts}
+use Rattle.rules.specs.Bounds.{maxResting, numbersEnd, maxLots, maxContracts, termsInRange}
 use Rattle.rules.specs.Change.{Asked, arriving, asked, changeRefusals, changed, gone, isSell, lessened, listingLessened, loses, losesPlace, newFieldsRefusals, oldOrder, placeKept, placeLost, reentered, reentryRefusals, unchanged}
 use Rattle.rules.specs.Exchange.{Exchange, listingNamed, noAccount, noContract, noOrder, own, placeOf}
 use Rattle.rules.specs.Kinds.{codeOf, decide, done, kindOf, lastOf, step}
@@ -38,9 +38,17 @@ use Rattle.rules.proofs.Refusals.{Failed, failed, first-append, first-there}
 use Rattle.invariants.proofs.ChangeKeeps.{change-counted, change-keeps}
 use Rattle.invariants.proofs.Clauses.{Counted, WellFormed, well-formed-test}
 use Rattle.invariants.proofs.MemoryKeeps.{sound, step-in-keeps, step-in-read}
-use Rattle.engine.specs.Outcome.{OutcomeIs, acceptedWith, refusedWith, withCountsIn}
+use Rattle.engine.specs.Arrival.{ArrivedIs, Ready, ordersOn}
+use Rattle.engine.specs.Decision.{DecisionIs, acceptedBy, listedIn, outcomeOf, refusedBy, withCarried}
+use Rattle.engine.specs.Outcome.{OutcomeIs, acceptedWith, withCountsIn}
 use Rattle.book.specs.Removal.{RemovedIs}
 use Rattle.engine.specs.declared.answers.Outcome.{Outcome}
+use Rattle.engine.specs.declared.updates.Arrival.{Arrival}
+use Rattle.engine.specs.declared.updates.Carried.{Carried}
+use Rattle.engine.specs.declared.updates.Decision.{Decision}
+use Rattle.engine.specs.declared.updates.Listed.{Listed}
+use Rattle.engine.specs.declared.updates.Update.the-variants.{Listing, Nothing}
+use Rattle.engine.proofs.Decisions.{counted-decided, nothing-decided, refusal-decided}
 use Rattle.engine.proofs.Formed.{Formed, formed, listing-at}
 use Rattle.engine.proofs.Outcomes.{acceptance, refusal}
 use Rattle.engine.proofs.Puts.{put-queues}
@@ -48,9 +56,11 @@ use Rattle.engine.proofs.Removals.{apart, removal-accepted, removed-none, side-
 use Rattle.engine.proofs.Traded.{few-after}
 use Rattle.engine.specs.Sides.{sideArea, sideCount}
 use Rattle.refusals.specs.Insertion.{Present}
-use Rattle.refusals.proofs.Continuous.{account-here, account-low, contract-fits, contract-here, contract-low, pulls}
-use Rattle.insertion.specs.Entry.{Enterable, enteredIn}
-use Rattle.changing.specs.Resting.{Changeable, RestingIs, lessenedIn, putBackIn, removedIn, restingRefusals, takenOut}
+use Rattle.refusals.proofs.Continuous.{account-here, account-low, contract-fits, contract-here, contract-low, pulls, rooms, terms-ok}
+use Rattle.insertion.specs.Entry.{ArriveIs, Enterable, Known, arrivalOf, enteredIn}
+use Rattle.insertion.proofs.Arriving.{arrived-decided}
+use Rattle.insertion.proofs.Entering.{known, order-entered, ready}
+use Rattle.changing.specs.Resting.{Changeable, RestingIs, lessenedIn, oneLess, putBackIn, removedIn, restingRefusals}
 use Rattle.changing.specs.declared.Resting.{Resting}
 use Rattle.changing.proofs.Finding.{lessened-none, lessened-one, missing-of, restored}
 
@@ -100,9 +110,12 @@ module _ {s : State} {buys sells trades : List ℕ} (w : WellFormedState s buys 
   order-first : firstOf (orderPart ++ lostPart) ≡ pick (eqb (firstOf orderPart) 0) (firstOf lostPart) (firstOf orderPart)
   order-first = first-append orderPart lostPart (omega arith)
 
+  refused-for : (code : ℕ) → codeOf x command ≡ code → (code ≡ 0 → ⊥) → {d : Decision} → d ≡ refusedBy code → DecisionIs m command d buys sells trades
+  refused-for code e h a = refusal-decided (refusal s buys sells trades command code (omega arith) e refl) a
+
   -- 2, 3 and 4
-  pub refused-early : {code : ℕ} {o : Outcome} → code ≡ firstOf stated → (code ≡ 0 → ⊥) → o ≡ refusedWith s code → OutcomeIs (stepIn m command) o buys sells trades
-  refused-early {code} e h a = refusal s buys sells trades command code (omega arith) (in-parts ∙ rw (← e, ne-eqb code 0 h)) a
+  pub refused-early : {code : ℕ} {d : Decision} → code ≡ firstOf stated → (code ≡ 0 → ⊥) → d ≡ refusedBy code → DecisionIs m command d buys sells trades
+  refused-early {code} e h = refused-for code (in-parts ∙ rw (← e, ne-eqb code 0 h)) h
 
   -- ---- in continuous, the account and the contract in use
 
@@ -121,18 +134,27 @@ module _ {s : State} {buys sells trades : List ℕ} (w : WellFormedState s buys 
       unfolding listingIn
       order-is = rw (resting-is, rs .order, listing-is) refl
 
-    module _ {place : ℕ} (is : place ≡ c) {buycount sellcount : ℕ} (eb : buycount ≡ getD (s .buycounts) place 0) (es : sellcount ≡ getD (s .sellcounts) place 0) {r : Resting}
-        (rs : RestingIs number (queueIn buys place buycount) (queueIn sells place sellcount) r) {owner : ℕ} (mine : owner ≡ placeOf account) {code : ℕ}
-        (ec : code ≡ firstOf (restingRefusals (getD (s .contracts) place noContract) owner r lots price)) where
-      found-here : RestingIs number bought sold r
-      found-here = rw (eb, es, is) at rs
+    -- `l` is the contract as it was read
+    module _ {l : Listed} (el : l ≡ listedIn s c) where
+      pub rooms-at : (firstWord (l .place) (l .bought) ≤ length buys) × (firstWord (l .place) (l .sold) ≤ length sells)
+      rooms-at = rw el (rooms w account contract (failed stated (omega arith) st) refl refl refl)
 
-      pub order-refused : (code ≡ 0 → ⊥) → {o : Outcome} → o ≡ refusedWith s code → OutcomeIs (stepIn m command) o buys sells trades
-      order-refused h a =
-          refusal s buys sells trades command code (omega arith) (in-parts ∙ rw (st, order-first, order-is found-here, ← (rw (is, mine) at ec), ne-eqb code 0 h)) a
+      pub terms-at : termsInRange (l .terms) ≡ true
+      terms-at = rw el (terms-ok w account contract (failed stated (omega arith) st) refl)
+
+    module _ {l : Listed} (el : l ≡ listedIn s c) {r : Resting} (rs : RestingIs number (queueIn buys (l .place) (l .bought)) (queueIn sells (l .place) (l .sold)) r) {owner : ℕ} (mine : owner ≡ placeOf account)
+        {code : ℕ} (ec : code ≡ firstOf (restingRefusals (l .terms) owner r lots price)) where
+      found-here : RestingIs number bought sold r
+      found-here = rw el at rs
+
+      tested-here : code ≡ firstOf (restingRefusals (getD (s .contracts) c noContract) (placeOf account) r lots price)
+      tested-here = rw (el, mine) at ec
+
+      pub order-refused : (code ≡ 0 → ⊥) → {d : Decision} → d ≡ refusedBy code → DecisionIs m command d buys sells trades
+      order-refused h = refused-for code (in-parts ∙ rw (st, order-first, order-is found-here, ← tested-here, ne-eqb code 0 h)) h
 
       pub changeable : code ≡ 0 → Changeable s buys sells trades account contract number lots price r
-      changeable e = record { state = st; resting = found-here; order = sym (rw (is, mine) at ec) ∙ e }
+      changeable e = record { state = st; resting = found-here; order = sym tested-here ∙ e }
 
   -- ---- none of these holds
 
@@ -290,23 +312,43 @@ module _ {s : State} {buys sells trades : List ℕ} (w : WellFormedState s buys 
         removal-accepted w account contract false (pulls w account contract named) refl (hasNumber number) (own-removed false e) (other-removed false e)
         (Cancel account contract false number) cancel-code refl refl (omega arith) refl
 
-    pub can-take-out : {place : ℕ} → place ≡ c
-        → (place < maxContracts) × (r .place < sideCount (r .sell) s place) × (firstWord place (sideCount (r .sell) s place) ≤ length (sideArea (r .sell) buys sells))
-    can-take-out is = rw is (contract-fits w account contract named refl, place-in, room (r .sell))
-
-    pub taken-out : {place : ℕ} → place ≡ c → {t : State} → t ≡ takenOut s place r → {buys′ sells′ : List ℕ}
-        → buys′ ≡ pick (r .sell) buys (removedIn buys place (sideCount false s place) (r .place))
-        → sells′ ≡ pick (r .sell) (removedIn sells place (sideCount true s place) (r .place)) sells → Cancelled t buys′ sells′
-    taken-out is et eb es = rw (et, eb, es, is) (as-cancelled (r .sell) refl)
-
     -- "Zero lots removes the order"
     zero-same : lots ≡ 0 → stepIn m (Cancel account contract false number) ≡ stepIn m command
     unfolding stepIn decide kindOf changed
     zero-same e = rw (cancel-code, kept-code (loses-is ∙ rw (eq-eqb lots 0 e)), eq-eqb lots 0 e)
 
-    pub zero-changed : lots ≡ 0 → {o : Outcome} {buys′ sells′ : List ℕ} → OutcomeIs (stepIn m (Cancel account contract false number)) o buys′ sells′ trades
-        → OutcomeIs (stepIn m command) o buys′ sells′ trades
-    zero-changed e {o} {buys′} {sells′} h = subst (λ (q : AfterCommand). OutcomeIs q o buys′ sells′ trades) (zero-same e) h
+    -- ---- `l` is the contract as it was read
+
+    count-on : (side : Bool) → ordersOn side (listedIn s c) ≡ count side
+    count-on true = refl
+    count-on false = refl
+
+    module _ {l : Listed} (el : l ≡ listedIn s c) where
+      pub its-place : (r .place < ordersOn (r .sell) l) × (firstWord (l .place) (ordersOn (r .sell) l) ≤ length (sideArea (r .sell) buys sells))
+      its-place = rw (el, count-on (r .sell)) (place-in, room (r .sell))
+
+      pub one-there : 1 ≤ ordersOn (r .sell) l
+      one-there = omega (arith, its-place .0)
+
+      -- the contract without its order
+      module _ {less : Listed} (is : less ≡ oneLess l (r .sell)) where
+        less-is : less ≡ oneLess (listedIn s c) (r .sell)
+        less-is = is ∙ ap (λ (v : Listed). oneLess v (r .sell)) el
+
+        pub less-fits : less .place < maxContracts
+        less-fits = rw less-is (contract-fits w account contract named refl)
+
+        module _ {buys′ sells′ : List ℕ} (eb : buys′ ≡ pick (r .sell) buys (removedIn buys (l .place) (l .bought) (r .place)))
+            (es : sells′ ≡ pick (r .sell) (removedIn sells (l .place) (l .sold) (r .place)) sells) where
+          cancelled-here : Cancelled (withCountsIn s (set (s .buycounts) c (pick (r .sell) (count false) (count false - 1))) (set (s .sellcounts) c (pick (r .sell) (count true - 1) (count true)))) buys′ sells′
+          cancelled-here = rw (eb, es, el) (as-cancelled (r .sell) refl)
+
+          pub zero-changed : lots ≡ 0 → {d : Decision} → d ≡ acceptedBy (Listing less) number (r .order .lots) → DecisionIs m command d buys′ sells′ trades
+          zero-changed e a =
+              counted-decided (contract-fits w account contract named refl)
+              (subst (λ (q : AfterCommand). OutcomeIs q (acceptedWith (withCountsIn s (set (s .buycounts) c (pick (r .sell) (count false) (count false - 1))) (set (s .sellcounts) c (pick (r .sell) (count true - 1) (count true)))) number 0 (r .order .lots)) buys′ sells′ trades)
+              (zero-same e) cancelled-here)
+              (a ∙ ap (λ (v : Listed). acceptedBy (Listing v) number (r .order .lots)) less-is)
 
     module _ (some : lots ≡ 0 → ⊥) where
       none-zero : eqb lots 0 ≡ false
@@ -325,10 +367,11 @@ module _ {s : State} {buys sells trades : List ℕ} (w : WellFormedState s buys 
             let same : eqb lots (oldOrder x k .lots) ≡ true = rw old-is (eq-eqb lots (r .order .lots) e) in
             rw (none-zero, kept, same)
 
-        pub equal-changed : lots ≡ r .order .lots → {o : Outcome} → o ≡ acceptedWith s number 0 lots → OutcomeIs (stepIn m command) o buys sells trades
+        pub equal-changed : lots ≡ r .order .lots → {d : Decision} → d ≡ acceptedBy Nothing number lots → DecisionIs m command d buys sells trades
         unfolding kindOf unchanged
         equal-changed e a =
-            acceptance s buys sells trades command (kept-code kept) (ap (λ (t : Effect). done t .answer) (equal-is e)) (ap (λ (t : Effect). written m (t .stages)) (equal-is e)) a
+            nothing-decided
+            (acceptance s buys sells trades command (kept-code kept) (ap (λ (t : Effect). done t .answer) (equal-is e)) (ap (λ (t : Effect). written m (t .stages)) (equal-is e)) refl) a
 
         -- "fewer lots keep the place in the queue"
         fewer-is : (lots ≡ r .order .lots → ⊥) → changed x k ≡ placeKept x k
@@ -343,11 +386,11 @@ module _ {s : State} {buys sells trades : List ℕ} (w : WellFormedState s buys 
         less-other : (side : Bool) → r .sell ≡ side → putQueue (area (not side)) c (count (not side)) (lessened number lots (queue (not side))) ≡ area (not side)
         less-other side e = rw (lessened-none number lots (queue (not side)) (other side e)) (put-queue (area (not side)) c (count (not side)) (room (not side)))
 
-        less-buys : (side : Bool) → r .sell ≡ side → putQueue buys c (count false) (lessened number lots bought) ≡ pick side buys (lessenedIn buys c (count side) (r .place) lots)
+        less-buys : (side : Bool) → r .sell ≡ side → putQueue buys c (count false) (lessened number lots bought) ≡ pick side buys (lessenedIn buys c (count false) (r .place) lots)
         less-buys true e = less-other true e
         less-buys false e = less-own false e
 
-        less-sells : (side : Bool) → r .sell ≡ side → putQueue sells c (count true) (lessened number lots sold) ≡ pick side (lessenedIn sells c (count side) (r .place) lots) sells
+        less-sells : (side : Bool) → r .sell ≡ side → putQueue sells c (count true) (lessened number lots sold) ≡ pick side (lessenedIn sells c (count true) (r .place) lots) sells
         less-sells true e = less-own true e
         less-sells false e = less-other false e
 
@@ -355,7 +398,7 @@ module _ {s : State} {buys sells trades : List ℕ} (w : WellFormedState s buys 
         less-few side = omega (arith, less-length number lots (queue side), length-queue (area side) c (count side), few side)
 
         less-lies : put m (withListing x c (listingLessened k (listingNamed x (k .contract))))
-            ≡ memory s (pick (r .sell) buys (lessenedIn buys c (count (r .sell)) (r .place) lots)) (pick (r .sell) (lessenedIn sells c (count (r .sell)) (r .place) lots) sells) trades
+            ≡ memory s (pick (r .sell) buys (lessenedIn buys c (count false) (r .place) lots)) (pick (r .sell) (lessenedIn sells c (count true) (r .place) lots) sells) trades
         unfolding listingIn
         less-lies =
             rw (listing-is st′)
@@ -371,28 +414,29 @@ module _ {s : State} {buys sells trades : List ℕ} (w : WellFormedState s buys 
               less-sells (r .sell) refl,
             ))
 
-        pub can-lessen : {place : ℕ} → place ≡ c → {count₁ : ℕ} → count₁ ≡ sideCount (r .sell) s place
-            → (r .place < count₁) × (firstWord place count₁ ≤ length (sideArea (r .sell) buys sells))
-        can-lessen is ec = rw (ec, is) (place-in, room (r .sell))
-
-        pub fewer-changed : (lots ≡ r .order .lots → ⊥) → {place : ℕ} → place ≡ c → {count₁ : ℕ} → count₁ ≡ sideCount (r .sell) s place → {buys′ sells′ : List ℕ}
-            → buys′ ≡ pick (r .sell) buys (lessenedIn buys place count₁ (r .place) lots) → sells′ ≡ pick (r .sell) (lessenedIn sells place count₁ (r .place) lots) sells
-            → {o : Outcome} → o ≡ acceptedWith s number 0 lots → OutcomeIs (stepIn m command) o buys′ sells′ trades
+        pub fewer-changed : (lots ≡ r .order .lots → ⊥) → {l : Listed} → l ≡ listedIn s c → {buys′ sells′ : List ℕ}
+            → buys′ ≡ pick (r .sell) buys (lessenedIn buys (l .place) (l .bought) (r .place) lots) → sells′ ≡ pick (r .sell) (lessenedIn sells (l .place) (l .sold) (r .place) lots) sells
+            → {d : Decision} → d ≡ acceptedBy Nothing number lots → DecisionIs m command d buys′ sells′ trades
         unfolding kindOf placeKept
-        fewer-changed h is ec eb es a =
-            rw (eb, es, ec, is)
+        fewer-changed h el eb es a =
+            nothing-decided
+            (rw (eb, es, el)
             (acceptance s buys sells trades command (kept-code kept) (ap (λ (t : Effect). done t .answer) (fewer-is h))
-            (ap (λ (t : Effect). written m (t .stages)) (fewer-is h) ∙ less-lies) a)
+            (ap (λ (t : Effect). written m (t .stages)) (fewer-is h) ∙ less-lies) refl)) a
 
-      -- ---- the place lost: t, buys′ and sells′ are what the cancel left
+      -- ---- the place lost: the order is taken out, and `t` is the state without it
 
-      module _ (lost : loses (r .order) lots price ≡ true) {t : Outcome} {buys′ sells′ : List ℕ}
-          (taken : OutcomeIs (stepIn m (Cancel account contract false number)) t buys′ sells′ trades) where
+      module _ (lost : loses (r .order) lots price ≡ true) {l : Listed} (el : l ≡ listedIn s c) {less : Listed} (is : less ≡ oneLess l (r .sell)) {buys′ sells′ : List ℕ}
+          (eb : buys′ ≡ pick (r .sell) buys (removedIn buys (l .place) (l .bought) (r .place))) (es : sells′ ≡ pick (r .sell) (removedIn sells (l .place) (l .sold) (r .place)) sells)
+          {t : State} (et : t ≡ withCountsIn s (set (s .buycounts) (less .place) (less .bought)) (set (s .sellcounts) (less .place) (less .sold))) where
+        taken : Cancelled t buys′ sells′
+        taken = rw (et, less-is el is) (cancelled-here el is eb es)
+
         loss : losesPlace x k ≡ true
         loss = loses-is ∙ rw (none-zero, lost)
 
         abbrev m′ : Memory
-        m′ = memory (t .state) buys′ sells′ trades
+        m′ = memory t buys′ sells′ trades
 
         lies : m′ ≡ put m (gone x k)
         lies = taken .memory ∙ gone-is
@@ -411,7 +455,7 @@ module _ {s : State} {buys sells trades : List ℕ} (w : WellFormedState s buys 
         unfolding gone listingIn
         gone-lies = rw (listing-is st′) (put-queues m f c (contract-here w account contract named) (left false) (left true) (left-few false) (left-few true))
 
-        gone-state : t .state ≡ withCountsIn s (set (s .buycounts) c (length (left false))) (set (s .sellcounts) c (length (left true)))
+        gone-state : t ≡ withCountsIn s (set (s .buycounts) c (length (left false))) (set (s .sellcounts) c (length (left true)))
         gone-state = ap (λ (n : Memory). n .state) (lies ∙ gone-lies)
 
         gone-buys : buys′ ≡ putQueue buys c (count false) (left false)
@@ -420,7 +464,7 @@ module _ {s : State} {buys sells trades : List ℕ} (w : WellFormedState s buys 
         gone-sells : sells′ ≡ putQueue sells c (count true) (left true)
         gone-sells = ap (λ (n : Memory). n .sells) (lies ∙ gone-lies)
 
-        gone-declared : Declared (t .state)
+        gone-declared : Declared t
         gone-declared =
             let d = w .declared in
             rw gone-state
@@ -432,7 +476,7 @@ module _ {s : State} {buys sells trades : List ℕ} (w : WellFormedState s buys 
               holdings = d .holdings;
             })
 
-        pub gone-formed : WellFormedState (t .state) buys′ sells′ trades
+        pub gone-formed : WellFormedState t buys′ sells′ trades
         gone-formed = record { declared = gone-declared; formed = rw (taken .memory) (step-in-keeps m (w .formed) (Cancel account contract false number)) }
 
         -- the order as it arrives again
@@ -440,7 +484,7 @@ module _ {s : State} {buys sells trades : List ℕ} (w : WellFormedState s buys 
           its-order : o ≡ arriving x k
           its-order = eo ∙ sym arriving-is
 
-          pub gone-present : Present (t .state) o
+          pub gone-present : Present t o
           gone-present =
               rw (eo, gone-state)
               (record { account-low = account-low w account contract named; account = account-here w account contract named; contract-low = contract-low w account contract named; contract = contract-here w account contract named })
@@ -448,8 +492,8 @@ module _ {s : State} {buys sells trades : List ℕ} (w : WellFormedState s buys 
           pub gone-lots : o .lots ≤ maxLots
           gone-lots = rw eo few-lots
 
-          pub gone-owner : {place : ℕ} → place ≡ placeOf account → {who : Account} → who ≡ getD (s .accounts) place noAccount → getD (t .state .accounts) (o .account - 1) noAccount ≡ who
-          gone-owner e ew = rw (ew, e, eo, gone-state)
+          pub gone-owner : {who : Account} → getD (s .accounts) (placeOf account) noAccount ≡ who → getD (t .accounts) (placeOf (o .account)) noAccount ≡ who
+          gone-owner e = rw (eo, gone-state) e
 
           module _ {code : ℕ} (ec : code ≡ firstOf (reentryRefusals (exchangeOf m′) number o)) where
             changed-code : codeOf x command ≡ code
@@ -457,50 +501,41 @@ module _ {s : State} {buys sells trades : List ℕ} (w : WellFormedState s buys 
 
             -- ---- refused: the order is put back
 
-            module _ (refused : code ≡ 0 → ⊥) {place : ℕ} (is : place ≡ c) {count₁ : ℕ} (en : count₁ ≡ sideCount (r .sell) (t .state) place) where
+            module _ (refused : code ≡ 0 → ⊥) where
               kept-other : (side : Bool) → r .sell ≡ side → putQueue (area (not side)) c (count (not side)) (left (not side)) ≡ area (not side)
               kept-other side e = rw (without-none (hasNumber number) (queue (not side)) (other side e)) (put-queue (area (not side)) c (count (not side)) (room (not side)))
 
-              counts-in : c < length (s .buycounts)
-              counts-in = omega (arith, w .declared .buycounts, contract-here w account contract named, f .contracts-high)
+              less-place : less .place ≡ c
+              less-place = ap (λ (v : Listed). v .place) (less-is el is)
 
-              counts-in-sells : c < length (s .sellcounts)
-              counts-in-sells = omega (arith, w .declared .sellcounts, contract-here w account contract named, f .contracts-high)
-
-              count-is : (side : Bool) → r .sell ≡ side → sideCount side (t .state) c ≡ count side - 1
-              count-is true e = rw gone-state (getD-set-same (s .sellcounts) c (length (left true)) 0 counts-in-sells ∙ out-length true e)
-              count-is false e = rw gone-state (getD-set-same (s .buycounts) c (length (left false)) 0 counts-in ∙ out-length false e)
-
-              less-one : count₁ ≡ count (r .sell) - 1
-              less-one = en ∙ rw is (count-is (r .sell) refl)
+              less-one : (side : Bool) → r .sell ≡ side → ordersOn side less ≡ count side - 1
+              less-one true e = ap (λ (v : Listed). v .sold) (less-is el is) ∙ rw e
+              less-one false e = ap (λ (v : Listed). v .bought) (less-is el is) ∙ rw e
 
               wide : (side : Bool) → length (sideArea side buys′ sells′) ≡ length (area side)
               wide true = ap length gone-sells ∙ length-putQueue sells c (count true) (left true) (few true) (left-few true) (omega (arith, f .sells-room, contract-here w account contract named))
               wide false = ap length gone-buys ∙ length-putQueue buys c (count false) (left false) (few false) (left-few false) (omega (arith, f .buys-room, contract-here w account contract named))
 
-              pub can-put-back : (r .place ≤ count₁) × (firstWord place count₁ + orderStride ≤ length (sideArea (r .sell) buys′ sells′))
-              can-put-back = rw is (omega (arith, less-one, place-in), omega (arith, less-one, place-in, wide (r .sell), room (r .sell)))
+              pub can-put-back : (r .place ≤ ordersOn (r .sell) less) × (firstWord (less .place) (ordersOn (r .sell) less) + orderStride ≤ length (sideArea (r .sell) buys′ sells′))
+              can-put-back =
+                  (omega (arith, less-one (r .sell) refl, place-in), omega (arith, less-place, less-one (r .sell) refl, place-in, wide (r .sell), room (r .sell)))
 
-              back-buys : (side : Bool) → r .sell ≡ side → {b : List ℕ} → b ≡ pick side buys′ (putBackIn buys′ c count₁ (r .place) (r .order)) → b ≡ buys
+              back-buys : (side : Bool) → r .sell ≡ side → {b : List ℕ} → b ≡ pick side buys′ (putBackIn buys′ c (less .bought) (r .place) (r .order)) → b ≡ buys
               back-buys true e q = q ∙ gone-buys ∙ kept-other true e
               back-buys false e q =
                   restored buys c (count false) (r .place) (r .order) (mine false e .1) (room false) (order-there false e)
-                  (gone-buys ∙ rw (out-of false e)) (less-one ∙ rw e) q
+                  (gone-buys ∙ rw (out-of false e)) (less-one false e) q
 
-              back-sells : (side : Bool) → r .sell ≡ side → {b : List ℕ} → b ≡ pick side (putBackIn sells′ c count₁ (r .place) (r .order)) sells′ → b ≡ sells
+              back-sells : (side : Bool) → r .sell ≡ side → {b : List ℕ} → b ≡ pick side (putBackIn sells′ c (less .sold) (r .place) (r .order)) sells′ → b ≡ sells
               back-sells true e q =
                   restored sells c (count true) (r .place) (r .order) (mine true e .1) (room true) (order-there true e)
-                  (gone-sells ∙ rw (out-of true e)) (less-one ∙ rw e) q
+                  (gone-sells ∙ rw (out-of true e)) (less-one true e) q
               back-sells false e q = q ∙ gone-sells ∙ kept-other false e
 
-              pub buys-back : {b : List ℕ} → b ≡ pick (r .sell) buys′ (putBackIn buys′ place count₁ (r .place) (r .order)) → b ≡ buys
-              buys-back eb = back-buys (r .sell) refl (rw is at eb)
-
-              pub sells-back : {b : List ℕ} → b ≡ pick (r .sell) (putBackIn sells′ place count₁ (r .place) (r .order)) sells′ → b ≡ sells
-              sells-back eb = back-sells (r .sell) refl (rw is at eb)
-
-              pub lost-refused : {b d : List ℕ} → b ≡ buys → d ≡ sells → {q : Outcome} → q ≡ refusedWith s code → OutcomeIs (stepIn m command) q b d trades
-              lost-refused eb ed a = rw (eb, ed) (refusal s buys sells trades command code (omega arith) changed-code a)
+              pub lost-refused : {b d : List ℕ} → b ≡ pick (r .sell) buys′ (putBackIn buys′ (less .place) (less .bought) (r .place) (r .order))
+                  → d ≡ pick (r .sell) (putBackIn sells′ (less .place) (less .sold) (r .place) (r .order)) sells′ → {q : Decision} → q ≡ refusedBy code → DecisionIs m command q b d trades
+              lost-refused bids offers a =
+                  rw (back-buys (r .sell) refl (rw less-place at bids), back-sells (r .sell) refl (rw less-place at offers)) (refused-for code changed-code refused a)
 
             -- ---- accepted: it is entered
 
@@ -508,7 +543,7 @@ module _ {s : State} {buys sells trades : List ℕ} (w : WellFormedState s buys 
               zero-code : codeOf x command ≡ 0
               zero-code = changed-code ∙ clear
 
-              next-is : t .state .next ≡ s .next
+              next-is : t .next ≡ s .next
               next-is = rw gone-state
 
               lost-is : changed x k ≡ placeLost x k
@@ -538,33 +573,33 @@ module _ {s : State} {buys sells trades : List ℕ} (w : WellFormedState s buys 
               unfolding exchangeOf
               x-next = refl
 
-              same-after : exchangeAfter (exchangeOf m′) o (enteredOf (exchangeOf m′) number 0 o) (t .state .next) ≡ after
+              same-after : exchangeAfter (exchangeOf m′) o (enteredOf (exchangeOf m′) number 0 o) (t .next) ≡ after
               unfolding reentered
               same-after =
-                  ap (λ (v : NewOrder). exchangeAfter (exchangeOf m′) v (enteredOf (exchangeOf m′) number 0 v) (t .state .next)) its-order
-                  ∙ ap (λ (y : Exchange). exchangeAfter y (arriving x k) (enteredOf y number 0 (arriving x k)) (t .state .next)) read
+                  ap (λ (v : NewOrder). exchangeAfter (exchangeOf m′) v (enteredOf (exchangeOf m′) number 0 v) (t .next)) its-order
+                  ∙ ap (λ (y : Exchange). exchangeAfter y (arriving x k) (enteredOf y number 0 (arriving x k)) (t .next)) read
                   ∙ ap (λ (n : ℕ). exchangeAfter (gone x k) (arriving x k) (enteredOf (gone x k) number 0 (arriving x k)) n) (next-is ∙ sym x-next)
 
               -- what it leaves is well formed
-              entered-keeps : WellFormed (exchangeAfter (exchangeOf m′) o (enteredOf (exchangeOf m′) number 0 o) (t .state .next))
+              entered-keeps : WellFormed (exchangeAfter (exchangeOf m′) o (enteredOf (exchangeOf m′) number 0 o) (t .next))
               entered-keeps = subst WellFormed (sym same-after) after-keeps
 
-              entered-counted : Counted (exchangeAfter (exchangeOf m′) o (enteredOf (exchangeOf m′) number 0 o) (t .state .next))
+              entered-counted : Counted (exchangeAfter (exchangeOf m′) o (enteredOf (exchangeOf m′) number 0 o) (t .next))
               entered-counted = subst Counted (sym same-after) after-counted
 
               entered-few : (side : Bool) → length (own side (listingAfter (listingOf (exchangeOf m′) o) (o .sell) (enteredOf (exchangeOf m′) number 0 o))) ≤ maxResting
               unfolding exchangeAfter
               entered-few side =
-                  few-after m′ (formed gone-formed) (placeOf (o .contract)) _ _ (t .state .next) (exchangeOf m′ .nextstamp + 1) (gone-present .contract) entered-keeps entered-counted side
+                  few-after m′ (formed gone-formed) (placeOf (o .contract)) _ _ (t .next) (exchangeOf m′ .nextstamp + 1) (gone-present .contract) entered-keeps entered-counted side
 
-              stamp-left : t .state .nextstamp < numbersEnd
+              stamp-left : t .nextstamp < numbersEnd
               unfolding exchangeOf
               stamp-left = leb-false _ _ (reentry .1 .1 .0)
 
               trades-room : rules.tradesRefused (exchangeOf m′) number o ≡ false
               trades-room = reentry .1 .1 .1 .0
 
-              pub lost-enterable : Enterable (t .state) buys′ sells′ trades o number 0 (t .state .next)
+              pub lost-enterable : Enterable t buys′ sells′ trades o number 0 (t .next)
               lost-enterable =
                   record {
                     present = gone-present;
@@ -575,6 +610,9 @@ module _ {s : State} {buys sells trades : List ℕ} (w : WellFormedState s buys 
                     leaves = well-formed-test _ entered-keeps;
                   }
 
+              pub lost-known : Known t buys′ sells′ o
+              lost-known = known gone-formed o number 0 (t .next) lost-enterable
+
               same-entered : enteredOf (exchangeOf m′) number 0 o ≡ reentered x k
               unfolding reentered
               same-entered = rw its-order (ap (λ (y : Exchange). enteredOf y number 0 (arriving x k)) read)
@@ -584,15 +622,40 @@ module _ {s : State} {buys sells trades : List ℕ} (w : WellFormedState s buys 
               unfolding stepIn decide kindOf placeLost
               response = rw (zero-code, lost-is)
 
-              same-response : enteredIn m′ o number 0 (t .state .next) ≡ stepIn m command
+              same-response : enteredIn m′ o number 0 (t .next) ≡ stepIn m command
               same-response =
                   ap (λ (e : Entered). record {
                     answer = answerOf 0 number (tradedLots (e .trades)) (e .rested);
-                    memory = put m′ (exchangeAfter (exchangeOf m′) o (enteredOf (exchangeOf m′) number 0 o) (t .state .next));
+                    memory = put m′ (exchangeAfter (exchangeOf m′) o (enteredOf (exchangeOf m′) number 0 o) (t .next));
                   }) same-entered
                   ∙ ap (λ (y : Exchange). record { answer = answerOf 0 number (tradedLots (reentered x k .trades)) (reentered x k .rested); memory = put m′ y }) same-after
                   ∙ ap (λ (v : Memory). record { answer = answerOf 0 number (tradedLots (reentered x k .trades)) (reentered x k .rested); memory = put v after }) lies
                   ∙ sym response
 
-              pub lost-changed : {q : Outcome} {b d e : List ℕ} → OutcomeIs (enteredIn m′ o number 0 (t .state .next)) q b d e → OutcomeIs (stepIn m command) q b d e
+              lost-changed : {q : Outcome} {b d e : List ℕ} → OutcomeIs (enteredIn m′ o number 0 (t .next)) q b d e → OutcomeIs (stepIn m command) q b d e
               lost-changed {q} {b} {d} {e} h = subst (λ (v : AfterCommand). OutcomeIs v q b d e) same-response h
+
+              -- what it leaves is written over the counts: whether they were one less before plays no part
+              module _ {a : Arrival} (ea : a ≡ arrivalOf t buys′ sells′ o number 0 (t .next)) where
+                pub enters : Ready (t .accounts) a buys′ sells′ trades
+                enters = ready gone-formed o number 0 (t .next) lost-enterable ea
+
+                accounts-are : t .accounts ≡ s .accounts
+                accounts-are = rw gone-state
+
+                place-is : a .listed .place ≡ c
+                place-is = rw (ea, eo)
+
+                same-written : (q : Carried) → q .listed .place ≡ c → withCarried t q ≡ withCarried s q
+                same-written q e =
+                    rw (e, gone-state, set-set (s .buycounts) c (length (left false)) (q .listed .bought), set-set (s .sellcounts) c (length (left true)) (q .listed .sold))
+
+                entered : (q : Carried) (b d e : List ℕ) → ArrivedIs (s .accounts) a buys′ sells′ trades q b d e → OutcomeIs (stepIn m command) (outcomeOf s q) b d e
+                entered q b d e arrived =
+                    let there : q .listed .place ≡ c = ap (λ (v : Listed). v .place) (arrived .listed) ∙ place-is in
+                    subst (λ (v : State). OutcomeIs (stepIn m command) (record { answer = q .answer; state = v }) b d e) (same-written q there)
+                    (lost-changed
+                    (order-entered gone-formed o number 0 (t .next) lost-enterable ea b d (subst⁻¹ (λ (v : List Account). ArrivedIs v a buys′ sells′ trades q b d e) accounts-are arrived)))
+
+                pub lost-decided : {d : Decision} {b e : List ℕ} → ArriveIs a buys′ sells′ d b e → DecisionIs m command d b e trades
+                lost-decided = arrived-decided (subst (λ (v : List Account). Ready v a buys′ sells′ trades) accounts-are enters) entered

@@ -1,6 +1,6 @@
 -- A resting order as the code finds it, what a change of it has passed before its place may be lost, and what is written of one queue.
 -- Assumes nothing.
-use mathlib.Core.Bool.{true, false}
+use mathlib.Core.Bool.{Bool, true}
 use mathlib.Core.List.{List, [], _∷_, _++_}
 use mathlib.Core.Path.{_≡_}
 use Prim.Native.Nat.{ℕ, _-_, _<_}
@@ -8,16 +8,18 @@ use lib.ListN.{length, getD, set}
 use Rattle.laws.specs.Choice.{pick}
 use Rattle.areas.specs.Lists.{insertAt, removeAt}
 use Rattle.rules.specs.Answers.{Refusal, firstOf, namedRefusals, noSuchOrder, notContinuous, numbered, ownerRefusals}
-use Rattle.rules.specs.Change.{newFieldsRefusals, unmarked}
-use Rattle.rules.specs.Exchange.{noContract, noOrder, placeOf}
+use Rattle.rules.specs.Change.{loses, newFieldsRefusals, unmarked}
+use Rattle.rules.specs.Exchange.{noAccount, noContract, noOrder, placeOf}
 use Rattle.rules.specs.Matching.{withLots}
-use Rattle.rules.specs.Memory.{exchangeOf, memory, putQueue, queueIn}
+use Rattle.rules.specs.Memory.{WellFormedState, exchangeOf, memory, putQueue, queueIn}
 use Rattle.book.specs.Places.{indexOf}
+use Rattle.rules.specs.declared.Account.{Account}
 use Rattle.rules.specs.declared.Contract.{Contract}
 use Rattle.rules.specs.declared.Order.{Order}
 use Rattle.rules.specs.declared.State.{State}
-use Rattle.engine.specs.Outcome.{withCountsIn}
-use Rattle.engine.specs.Sides.{sideCount}
+use Rattle.engine.specs.Decision.{countedAs, listedIn}
+use Rattle.engine.specs.declared.updates.Listed.{Listed}
+use Rattle.changing.specs.declared.Asked.{Asked}
 use Rattle.changing.specs.declared.Resting.{Resting}
 
 -- the order found, as a list of one or none
@@ -53,9 +55,17 @@ removedIn area c count place = putQueue area c count (removeAt place (queueIn ar
 abbrev pub putBackIn : List ℕ → ℕ → ℕ → ℕ → Order → List ℕ
 putBackIn area c count place o = putQueue area c count (insertAt place o (queueIn area c count))
 
--- ---- the state with one order less on the side of the order found
+-- ---- the contract with one order less on a side
 
-abbrev pub takenOut : State → ℕ → Resting → State
-takenOut s c r =
-    withCountsIn s (set (s .buycounts) c (pick (r .sell) (sideCount false s c) (sideCount false s c - 1)))
-    (set (s .sellcounts) c (pick (r .sell) (sideCount true s c - 1) (sideCount true s c)))
+abbrev pub oneLess : Listed → Bool → Listed
+oneLess l sell = countedAs l (pick sell (l .bought) (l .bought - 1)) (pick sell (l .sold - 1) (l .sold))
+
+-- ---- a change that loses its place, its account, its contract and its order as they were read
+
+pub record LosesPlace (s : State) (who : Account) (buys sells trades : List ℕ) (k : Asked) (l : Listed) (r : Resting) : Type 0 where
+  pub formed : WellFormedState s buys sells trades
+  pub owner : getD (s .accounts) (placeOf (k .account)) noAccount ≡ who
+  pub listed : l ≡ listedIn s (placeOf (k .contract))
+  pub changeable : Changeable s buys sells trades (k .account) (k .contract) (k .number) (k .lots) (k .price) r
+  pub some : k .lots ≡ 0 → ⊥
+  pub lost : loses (r .order) (k .lots) (k .price) ≡ true

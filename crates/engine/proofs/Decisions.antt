@@ -23,7 +23,7 @@ use Rattle.engine.specs.Outcome.{OutcomeIs, acceptedWith, isMatch, refus
 use Rattle.engine.specs.declared.updates.Decision.{Decision}
 use Rattle.engine.specs.declared.updates.Listed.{Listed}
 use Rattle.engine.specs.declared.updates.Pending.the-variants.{Matching}
-use Rattle.engine.specs.declared.updates.Update.the-variants.{Balance, Left, Listing}
+use Rattle.engine.specs.declared.updates.Update.the-variants.{Balance, Left, Listing, Nothing}
 
 -- the account that is handed over, where it is in use
 pub held-here : (s : State) (account : ℕ) {who : Account} → isAbsent account (s .accountcount) ≡ false → HeldBy s account who
@@ -71,6 +71,10 @@ module _ {s : State} {buys sells trades : List ℕ} {command : Command} {buys′
   pub refusal-decided : {code : ℕ} → OutcomeIs (stepIn (memory s buys sells trades) command) (refusedWith s code) buys′ sells′ trades′ → d ≡ refusedBy code
       → DecisionIs (memory s buys sells trades) command d buys′ sells′ trades′
   refusal-decided k e = as-told e (record { told = k })
+
+  pub nothing-decided : {number lots : ℕ} → OutcomeIs (stepIn (memory s buys sells trades) command) (acceptedWith s number 0 lots) buys′ sells′ trades′ → d ≡ acceptedBy Nothing number lots
+      → DecisionIs (memory s buys sells trades) command d buys′ sells′ trades′
+  nothing-decided k e = as-told e (record { told = k })
 
   pub balance-decided : {place : ℕ} {balance : ℤ} → place < maxAccounts
       → OutcomeIs (stepIn (memory s buys sells trades) command) (acceptedWith (withBalanceAt s place balance) 0 0 0) buys′ sells′ trades′

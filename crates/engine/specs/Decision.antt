@@ -12,7 +12,7 @@ use Rattle.rules.specs.Step.{answerOf}
 use Rattle.rules.specs.declared.Account.{Account}
 use Rattle.rules.specs.declared.Answer.{Answer}
 use Rattle.rules.specs.declared.Command.{Command}
-use Rattle.rules.specs.declared.Command.the-variants.{Phase, Settle, Quote, Change}
+use Rattle.rules.specs.declared.Command.the-variants.{Phase, Settle, Quote}
 use Rattle.rules.specs.declared.State.{State}
 use Rattle.engine.specs.Arrival.{ArrivedIs, Trades}
 use Rattle.engine.specs.Outcome.{OutcomeIs, isMatch, withAccountsIn, withBalanceAt}
@@ -23,7 +23,7 @@ use Rattle.engine.specs.declared.updates.Listed.{Listed}
 use Rattle.engine.specs.declared.updates.Pending.{Pending}
 use Rattle.engine.specs.declared.updates.Pending.the-variants.{Trading, Matching}
 use Rattle.engine.specs.declared.updates.Remaining.{Remaining}
-use Rattle.engine.specs.declared.updates.Remaining.the-variants.{Changing, Quoting, Settling}
+use Rattle.engine.specs.declared.updates.Remaining.the-variants.{Quoting, Settling}
 use Rattle.engine.specs.declared.updates.Update.{Update}
 use Rattle.engine.specs.declared.updates.Update.the-variants.{Nothing, Balance, Listing, Left, Whole}
 
@@ -108,7 +108,6 @@ pub record LeftIs (m : Memory) (command : Command) (p : Pending) (buys sells tra
 
 -- the command that it is
 abbrev pub commandLeft : Remaining → Command
-commandLeft (Changing account contract number lots price) = Change account contract number lots price
 commandLeft (Quoting account contract lots buy sell) = Quote account contract lots buy sell
 commandLeft Settling = Settle
 

@@ -47,13 +47,6 @@ pub enum Pending {
 
 // What is left to do with the whole state.
 pub enum Remaining {
-    Changing {
-        account: u32,
-        contract: u32,
-        number: u32,
-        lots: u32,
-        price: u32,
-    },
     Quoting {
         account: u32,
         contract: u32,

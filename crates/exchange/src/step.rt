@@ -7,6 +7,7 @@ ghost use Rattle.exchange.specs.Decided.{DecidedIs};
 ghost use Rattle.exchange.specs.Response.{ResponseIs};
 use crate::settling;
 use crate::settling::Response;
+use changing::Asked;
 use engine::answers::Outcome;
 use engine::payments;
 use engine::phases;
@@ -85,13 +86,20 @@ pub fn decide(
             number,
             lots,
             price,
-        } => updates::left(Update::Whole(Remaining::Changing {
-            account,
-            contract,
-            number,
-            lots,
-            price,
-        })),
+        } => changing::change(
+            state,
+            who,
+            buys,
+            sells,
+            trades,
+            Asked {
+                account,
+                contract,
+                number,
+                lots,
+                price,
+            },
+        ),
     }
 }
 
@@ -129,23 +137,6 @@ pub fn carry_whole(
     ensures { λ r. ⌜ ResponseIs (memory state (now (buys .entry)) (now (sells .entry)) (now (trades .entry))) (commandLeft remaining) r (now (buys .exit)) (now (sells .exit)) (now (trades .exit)) ⌝ }
 {
     match remaining {
-        Remaining::Changing {
-            account,
-            contract,
-            number,
-            lots,
-            price,
-        } => settling::plain(changing::change(
-            state,
-            buys,
-            sells,
-            trades,
-            account,
-            contract,
-            number,
-            lots,
-            price,
-        )),
         Remaining::Quoting {
             account,
             contract,

@@ -379,20 +379,23 @@ pub fn reentry_code<'a>(
     requires { ⌜ WellFormedState state (now buys) (now sells) (now trades) × Present state o × (o .lots ≤ maxLots) × (getD (state .accounts) (placeOf (o .account)) noAccount ≡ who) ⌝ }
     ensures { λ r. ⌜ r ≡ answer.firstOf (reentryRefusals (exchangeOf (memory state (now (buys .entry)) (now (sells .entry)) (now (trades .entry)))) number o) ⌝ }
 {
+    // read before margin is charged, as in `order_code`
+    let c = laws::place_of(o.contract);
+    let contracts = state.contracts;
+    let terms = contracts[c];
+    let count = orders::side_count(!o.sell, state, c);
+    let nextstamp = state.nextstamp;
+    let recorded = state.tradecount;
     let account = account_code(state, who, buys, sells, trades, o);
     if account != 0 {
         return account;
     }
-    if rules::NUMBERS_END <= state.nextstamp {
+    if rules::NUMBERS_END <= nextstamp {
         return 10;
     }
-    let c = laws::place_of(o.contract);
-    let contracts = state.contracts;
-    let terms = contracts[c];
     let area = orders::side_area(!o.sell, buys, sells);
-    let count = orders::side_count(!o.sell, state, c);
-    let t = orders::taker_of(number, 0, state.nextstamp, terms, area, count, o);
-    if trades_refused(terms, state.tradecount, area, c, count, t, o.lots) {
+    let t = orders::taker_of(number, 0, nextstamp, terms, area, count, o);
+    if trades_refused(terms, recorded, area, c, count, t, o.lots) {
         return 12;
     }
     0

@@ -7,7 +7,7 @@ use Rattle.changing.proofs.lessen.Tie as tie
 set-lots-unmarked-requires : tie.Need-set-lots-unmarked-requires
 set-lots-unmarked-requires c κs =
     let start = c .before .before .before .before in
-    (start .pre .0, rw (c .before .if1 .taken) at (start .pre .1))
+    (rw (c .before .if1 .taken) at (start .pre .0), rw (c .before .if1 .taken) at (start .pre .1))
 
 same-length : tie.Need-same-length
 same-length c = search needs
@@ -18,7 +18,7 @@ returns c = rw (c .before .before .before .before .if1 .taken) (refl, c .before 
 set-lots-unmarked-requires-2 : tie.Need-set-lots-unmarked-requires-2
 set-lots-unmarked-requires-2 c κs =
     let start = c .before .before .before .before in
-    (start .pre .0, rw (c .before .if1 .left) at (start .pre .1))
+    (rw (c .before .if1 .left) at (start .pre .0), rw (c .before .if1 .left) at (start .pre .1))
 
 same-length-2 : tie.Need-same-length-2
 same-length-2 c = search needs

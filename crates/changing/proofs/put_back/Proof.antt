@@ -6,8 +6,9 @@ use Rattle.changing.proofs.put_back.Tie as tie
 
 insert-at-requires : tie.Need-insert-at-requires
 insert-at-requires c κs =
-    let start = c .before .before .before .before .before in
-    (start .pre .0, rw (c .before .if1 .taken) at (start .pre .1))
+    let tested = c .before in
+    let start = tested .before .before .before .before in
+    (rw (tested .if1 .taken) at (start .pre .0), rw (tested .if1 .taken) at (start .pre .1))
 
 same-length : tie.Need-same-length
 same-length c = search needs
@@ -17,8 +18,9 @@ returns c = rw (c .before .before .before .before .if1 .taken) (refl, c .before 
 
 insert-at-requires-2 : tie.Need-insert-at-requires-2
 insert-at-requires-2 c κs =
-    let start = c .before .before .before .before .before in
-    (start .pre .0, rw (c .before .if1 .left) at (start .pre .1))
+    let tested = c .before in
+    let start = tested .before .before .before .before in
+    (rw (tested .if1 .left) at (start .pre .0), rw (tested .if1 .left) at (start .pre .1))
 
 same-length-2 : tie.Need-same-length-2
 same-length-2 c = search needs

@@ -10,8 +10,6 @@ carry-whole-spec =
     tie.close
     (tie.spec
     (λ c. search needs) (λ c κs. search needs) (λ c κs. search needs)
-    (λ c. search needs) (λ c κs. search needs) (λ c κs. search needs)
     (λ c. search needs) (λ c κs. search needs)
-    (λ c. search needs) (λ c. search needs) (λ c. search needs) (λ c. search (plain-left, c .before .before .before .before))
     (λ c. search needs) (λ c. search needs) (λ c. search needs) (λ c. search (plain-left, c .before .before .before .before))
     (λ c. search needs) (λ c. search needs) (λ c. search needs) (λ c. search (settled-left, c .before .before .before .before)))
