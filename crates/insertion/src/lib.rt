@@ -12,7 +12,6 @@ ghost use Rattle.laws.specs.Choice.{pick};
 ghost use Rattle.engine.specs.Arrival.{Arriving, Arrives, ArrivedIs, Ready, Trades, enteredOn};
 ghost use Rattle.engine.specs.Decision.{DecisionIs, HeldBy};
 ghost use Rattle.insertion.specs.Entry.{ArriveIs, ArriveOn, Known, TradedOn, TradesOn, arrivalOf, restedAlone, restsAlone};
-use engine::answers;
 use engine::updates;
 use engine::updates::Arrival;
 use engine::updates::Carried;
@@ -241,13 +240,14 @@ pub fn enter(
     requires { ⌜ Ready accounts a (now buys) (now sells) (now trades) ⌝ }
     ensures { λ r. ⌜ ArrivedIs accounts a (now (buys .entry)) (now (sells .entry)) (now (trades .entry)) r (now (buys .exit)) (now (sells .exit)) (now (trades .exit)) ⌝ }
 {
-    let held = accounts;
+    // before the areas are written: else the compiler keeps a copy of all accounts
+    let kept = accounts;
     let decision = arrive(a, buys, sells);
     let update = decision.update;
     let answer = decision.answer;
     match update {
         Update::Listing(listed) => Carried {
-            accounts: held,
+            accounts: kept,
             listed,
             answer,
         },
@@ -267,9 +267,6 @@ pub fn insert(
     requires { ⌜ WellFormedState state (now buys) (now sells) (now trades) × HeldBy state (o .account) who ⌝ }
     ensures { λ r. ⌜ DecisionIs (memory state (now (buys .entry)) (now (sells .entry)) (now (trades .entry))) (Insert o) r (now (buys .exit)) (now (sells .exit)) (now (trades .entry)) ⌝ }
 {
-    if answers::is_absent(o.account, state.accountcount) {
-        return updates::refused(2);
-    }
     let code = codes::code_of(state, who, &buys[..], &sells[..], trades, o);
     if code != 0 {
         return updates::refused(code);

@@ -10,7 +10,7 @@ use lib.Dec.{leb}
 use lib.ListN.{length, getD}
 use Rattle.laws.specs.Choice.{both-true, pick}
 use Rattle.rules.specs.Answers.{Refusal, accountRefusals, bookRefusals, conditionsRefused, fieldsRefusals, fillableLots, firstOf, fullRefused, holdingRefused, insertRefusals, killRefused, listingOf, lotsRefused, mark, noRoomFor, oppositeQueue, orderRefusals, ownQueue, takerFor, takerOf, takesOrders, tradesNeeded, tradesRefused, tradesAgainst}
-use Rattle.rules.specs.Bounds.{inAuction, maxAccounts, maxContracts, maxLimit, maxLots, maxResting, maxTrades, numbersEnd, termsInRange, within}
+use Rattle.rules.specs.Bounds.{inAuction, maxContracts, maxLimit, maxLots, maxResting, maxTrades, numbersEnd, termsInRange, within}
 use Rattle.rules.specs.Exchange.{Exchange, accountAt, holdingAt, isAbsent, noAccount, noContract, noHolding, placeOf, resting}
 use Rattle.rules.specs.Kinds.{codeOf, kindOf}
 use Rattle.rules.specs.Matching.{fillable}
@@ -96,12 +96,6 @@ module _ {s : State} {buys sells trades : List ℕ} (w : WellFormedState s buys 
   code-account e = no-such-account (w .declared) (f .accounts-high) buys sells trades (o .account) (o .contract) _ e
 
   module _ (a : isAbsent (o .account) (s .accountcount) ≡ false) where
-    pub holder-low : 1 ≤ o .account
-    holder-low = place-below (o .account) (s .accountcount) a .0
-
-    pub holder-fits : {place : ℕ} → place ≡ placeOf (o .account) → place < maxAccounts
-    holder-fits is = omega (arith, place-below (o .account) (s .accountcount) a .1, f .accounts-high)
-
     pub code-contract : isAbsent (o .contract) (s .contractcount) ≡ true → 3 ≡ codeOf x (Insert o)
     unfolding codeOf kindOf insertRefusals
     code-contract e = no-such-contract (w .declared) (f .accounts-high) buys sells trades (o .account) (o .contract) _ a e

@@ -3,13 +3,12 @@ use mathlib.Core.Bool.{true, false, not}
 use mathlib.Core.List.{List}
 use mathlib.Core.Path.{_≡_}
 use Prim.Native.Nat.{ℕ, _<_, _≤_}
-use lib.ListN.{length, getD}
+use lib.ListN.{length}
 use Rattle.rules.specs.Answers.{listingOf, namedRefusals, notContinuous, oppositeQueue, ownQueue, takerOf}
 use Rattle.rules.specs.Bounds.{maxResting}
-use Rattle.rules.specs.Exchange.{Exchange, bestPrice, isAbsent, noAccount, placeOf}
+use Rattle.rules.specs.Exchange.{Exchange, bestPrice, isAbsent, placeOf}
 use Rattle.rules.specs.Memory.{queueIn, firstWord}
 use Rattle.rules.specs.WellFormed.{sorted}
-use Rattle.rules.specs.declared.Account.{Account}
 use Rattle.rules.specs.declared.Contract.{Contract}
 use Rattle.rules.specs.declared.NewOrder.{NewOrder}
 use Rattle.rules.specs.declared.Order.{Order}
@@ -44,11 +43,6 @@ pub record Present (s : State) (o : NewOrder) : Type 0 where
   pub account : placeOf (o .account) < s .accountcount
   pub contract-low : 1 ≤ o .contract
   pub contract : placeOf (o .contract) < s .contractcount
-
--- an order whose account is in use, and that account
-pub record OwnedBy (s : State) (o : NewOrder) (who : Account) : Type 0 where
-  pub in-use : isAbsent (o .account) (s .accountcount) ≡ false
-  pub owner : getD (s .accounts) (placeOf (o .account)) noAccount ≡ who
 
 -- 2, 3 and 4 of a kind "in continuous only"; code 0 says that its account is in use
 pub record ContinuousIs (s : State) (account contract code : ℕ) : Type 0 where

@@ -1,6 +1,6 @@
-// The code of an insert: the refusals 3 to 13 in their order, those from 5 on as a call of its own; and of an order that is entered
-// again, which some of them test. For our own crates: `code_of`, `order_code` and `reentry_code` ask for a well-formed state and an
-// order whose account is in use, the others for what they read of it; `continuous_code` gives 2, 3 and 4 of a quote and of a change.
+// The code of an insert: the refusals 2 to 13 in their order, those from 5 on as a call of its own; and of an order that is entered
+// again, which some of them test. For our own crates: `code_of`, `order_code` and `reentry_code` ask for a well-formed state, the last two
+// for an order whose account is in use, the others for what they read of it; `continuous_code` gives 2, 3 and 4 of a quote and of a change.
 ghost use mathlib.Core.Bool.{true, _&&_, _||_};
 ghost use mathlib.Core.Path.{_≡_};
 ghost use Prim.Native.Nat.{_≤_};
@@ -14,7 +14,8 @@ ghost use Rattle.rules.specs.Kinds.{codeOf};
 ghost use Rattle.rules.specs.Memory.{exchangeOf, queueIn, memory, WellFormedState};
 ghost use Rattle.rules.specs.declared.Command.the-variants.{Insert};
 ghost use Rattle.rules.specs.Change.{reentryRefusals};
-ghost use Rattle.refusals.specs.Insertion.{Present, OwnedBy, QueueRoom, Facing, MeetsQueue, ContinuousIs};
+ghost use Rattle.engine.specs.Decision.{HeldBy};
+ghost use Rattle.refusals.specs.Insertion.{Present, QueueRoom, Facing, MeetsQueue, ContinuousIs};
 use crate::orders;
 use engine::answers;
 use rules::AUCTION;
@@ -341,7 +342,7 @@ pub fn order_code<'a>(
     book_code(state, terms, own, area, c, count, t, o)
 }
 
-// The code of the first refusal that holds, 0 where none does. `who` is the order's account.
+// The code of the first refusal that holds, 0 where none does. `who` is the account that the order names.
 pub fn code_of<'a>(
     state: State,
     who: Account,
@@ -350,9 +351,12 @@ pub fn code_of<'a>(
     trades: &'a [u32],
     o: NewOrder,
 ) -> u32
-    requires { ⌜ WellFormedState state (now buys) (now sells) (now trades) × OwnedBy state o who ⌝ }
+    requires { ⌜ WellFormedState state (now buys) (now sells) (now trades) × HeldBy state (o .account) who ⌝ }
     ensures { λ r. ⌜ r ≡ codeOf (exchangeOf (memory state (now (buys .entry)) (now (sells .entry)) (now (trades .entry)))) (Insert o) ⌝ }
 {
+    if answers::is_absent(o.account, state.accountcount) {
+        return 2;
+    }
     if answers::is_absent(o.contract, state.contractcount) {
         return 3;
     }

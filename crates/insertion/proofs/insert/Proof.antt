@@ -6,29 +6,25 @@ use Rattle.rules.specs.Kinds.{codeOf}
 use Rattle.rules.specs.Memory.{exchangeOf, memory}
 use Rattle.rules.specs.declared.Command.the-variants.{Insert}
 use Rattle.engine.specs.Arrival.{Ready}
-use Rattle.engine.proofs.Decisions.{held-here, refusal-decided}
+use Rattle.engine.proofs.Decisions.{refusal-decided}
 use Rattle.engine.proofs.Outcomes.{refusal}
-use Rattle.refusals.proofs.Inserting.{code-account}
 use Rattle.insertion.proofs.Arriving.{arrived-decided}
 use Rattle.insertion.proofs.Entering.{enterable, insert-entered, known, next-low, order-entered, ready}
 use borrow.Author.Needs.{needs}
 use Rattle.insertion.proofs.insert.Statement.{statement}
 use Rattle.insertion.proofs.insert.Tie as tie
 
-abbrev begun : tie.After-is-absent → tie.Start
-begun c = c .before .before .before .before
-
 abbrev start : tie.After-code-of → tie.Start
 start c =
-    let tested = c .before .before .before in
-    begun (tested .before)
+    let known = c .before .before .before .before in
+    known .before .before
 
-accepted : (c : tie.Else2) → let here = start (c .before) in
+accepted : (c : tie.Else1) → let here = start (c .before) in
     codeOf (exchangeOf (memory (here .args .state) (now (here .args .buys)) (now (here .args .sells)) (now (here .args .trades)))) (Insert (here .args .o)) ≡ 0
-accepted c = sym (c .before .code-of .ensures) ∙ c .if2 .left
+accepted c = sym (c .before .code-of .ensures) ∙ c .if1 .left
 
 -- from the order about to enter to the last test
-abbrev passed : tie.After-arrival-of → tie.Else2
+abbrev passed : tie.After-arrival-of → tie.Else1
 passed c = c .before .before .before
 
 may-enter : (c : tie.After-arrival-of) → let here = start (passed c .before) in
@@ -38,45 +34,37 @@ may-enter c =
     ready (here .pre .0) (here .args .o) _ _ _ (enterable (here .pre .0) (here .args .o) (accepted (passed c))) (c .arrival-of .ensures)
 
 returns : tie.Need-returns
-returns c =
-    let here = begun (c .before .before) in
-    refusal-decided (refusal _ _ _ _ _ _ (omega arith) (sym (code-account (here .pre .0) (here .args .o) (sym (c .before .before .is-absent .ensures) ∙ c .before .if1 .taken))) refl) (c .refused .ensures)
-
-code-of-requires : tie.Need-code-of-requires
-code-of-requires c κs =
-    let tested = c .before .before in
-    let here = begun (tested .before) in
-    let there = sym (tested .before .is-absent .ensures) ∙ tested .if1 .left in
-    (here .pre .0, record { in-use = there; owner = held-here (here .args .state) (here .args .o .account) there (here .pre .1) })
+returns c = refusal-decided (refusal _ _ _ _ _ _ (omega (arith, c .before .if1 .taken)) (sym (c .before .before .code-of .ensures)) refl) (c .refused .ensures)
 
 returns-2 : tie.Need-returns-2
-returns-2 c = refusal-decided (refusal _ _ _ _ _ _ (omega (arith, c .before .if2 .taken)) (sym (c .before .before .code-of .ensures)) refl) (c .refused2 .ensures)
-
-returns-3 : tie.Need-returns-3
-returns-3 c =
+returns-2 c =
     let called = c .before .before .before .before in
     let arrival = called .before .before .before in
     let here = start (passed arrival .before) in
     let may = enterable (here .pre .0) (here .args .o) (accepted (passed arrival)) in
     arrived-decided (may-enter arrival)
-    (λ r buys′ sells′ trades′ k. insert-entered (here .pre .0) (here .args .o) (accepted (passed arrival)) (order-entered (here .pre .0) (here .args .o) _ _ _ may (arrival .arrival-of .ensures) buys′ sells′ k))
+    (λ r buys′ sells′ trades′ k.
+    insert-entered (here .pre .0) (here .args .o) (accepted (passed arrival)) (order-entered (here .pre .0) (here .args .o) _ _ _ may (arrival .arrival-of .ensures) buys′ sells′ k))
     (called .arrive .ensures)
+
+arrival-of-requires : tie.Need-arrival-of-requires
+arrival-of-requires c κs =
+    let test = c .before .before in
+    let here = start (test .before) in
+    known (here .pre .0) (here .args .o) _ _ _ (enterable (here .pre .0) (here .args .o) (accepted test))
 
 pub insert-spec : {M : Type 1} → statement M
 insert-spec =
     tie.close
     (tie.spec
+    (λ c κs. let known = c .before .before in known .before .before .before .pre)  -- code-of-requires
     (λ c κs. search needs)
-    (λ c κs. search needs)
+    (λ c. search needs)
+    (λ c. search needs)
     returns
-    code-of-requires
-    (λ c κs. search needs)
-    (λ c. search needs)
-    (λ c. search needs)
-    returns-2
     (λ c. let here = start (c .before .before .before) in omega (arith, next-low (here .pre .0) (here .args .o) (accepted (c .before .before))))  -- add-arrival-of
-    (λ c κs. let here = start (c .before .before .before) in known (here .pre .0) (here .args .o) _ _ _ (enterable (here .pre .0) (here .args .o) (accepted (c .before .before))))  -- arrival-of-requires
+    arrival-of-requires
     (λ c κs. may-enter (c .before .before) .arrives)  -- arrive-requires
     (λ c. search needs)
     (λ c. search needs)
-    returns-3)
+    returns-2)
