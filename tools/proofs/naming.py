@@ -32,6 +32,7 @@ class Way(NamedTuple):
     place: str
     back: int
     owner: str  # the definition it stands in
+    kind: str  # and where there: signature, clause
 
 
 class Places:
@@ -184,7 +185,7 @@ class Proof:
         if back:
             head = self.text[words[i].start : words[j - back - 1].end]
             start = self.path(words[: j - back], i, scope)[0]
-            found.append(Way(words[i].start, words[j - 1].end, head, start, back, item.name))
+            found.append(Way(words[i].start, words[j - 1].end, head, start, back, item.name, item.kind))
 
     def path(self, words, i, scope):
         """The place of the path at i, and where it ends; nothing where no place is known."""
@@ -304,7 +305,7 @@ SAY_NOTHING = {"let", "len", "rules", "true", "false"}
 
 def test_name(condition):
     """The word that tells what a condition is about."""
-    words = [word for word in re.findall(r"[a-z][a-z_]+", condition) if len(word) > 2 and word not in SAY_NOTHING]
+    words = [word for word in re.findall(r"[a-z][a-z_]+(?!\w*::)", condition) if len(word) > 2 and word not in SAY_NOTHING]
     return words[0].replace("_", "-") if words else None
 
 
@@ -464,7 +465,8 @@ def named(text, function, source="", but=()):
     for way in sorted(ways, key=lambda each: -each.start):
         words = written(way.head, places.chain(way.place), way.back, [*given, *links], names)
         text = text[: way.start] + words + text[way.end :]
-        taken.setdefault(way.owner, []).append(re.sub(r"( \.before)+$", "", words))
+        if way.kind == "clause":
+            taken.setdefault(way.owner, []).append(re.sub(r"( \.before)+$", "", words))
     for item in reversed(syntax.items(text)):
         if item.kind == "clause" and item.name in taken:
             text = text[: item.start] + shared(text[item.start : item.end], taken[item.name]) + text[item.end :]

@@ -5,18 +5,6 @@ use Rattle.rules.specs.Holdings.{afterLeg}
 use Rattle.holdings.proofs.after_leg.Statement.{statement}
 use Rattle.holdings.proofs.after_leg.Tie as tie
 
-add-x : tie.Need-add-x
-add-x c = search needs
-
-lowered-requires : tie.Need-lowered-requires
-lowered-requires c κs = search needs
-
-add-x-2 : tie.Need-add-x-2
-add-x-2 c = search needs
-
-lowered-requires-2 : tie.Need-lowered-requires-2
-lowered-requires-2 c κs = search needs
-
 returns : tie.Need-returns
 unfolding afterLeg
 returns c = rw (c .before .if1 .taken, eq-eqb _ _ (c .if2 .taken))
@@ -34,13 +22,11 @@ unfolding afterLeg
 returns-4 c = rw (c .before .before .if1 .left, ne-eqb _ _ (c .before .if3 .left), c .lowered2 .ensures)
 
 pub after-leg-spec : {M : Type 1} → statement M
-after-leg-spec =
-    tie.close
-    (tie.spec
-    add-x
-    lowered-requires
-    add-x-2
-    lowered-requires-2
+after-leg-spec = tie.close (tie.spec
+    (λ c. search needs)  -- add-x
+    (λ c κs. search needs)  -- lowered-requires
+    (λ c. search needs)  -- add-x-2
+    (λ c κs. search needs)  -- lowered-requires-2
     returns
     returns-2
     returns-3

@@ -19,8 +19,12 @@ taker-of-requires : tie.Need-taker-of-requires
 taker-of-requires c κs =
     let stands = listed c in
     let begun = start (stands .before) in
-    let pre = begun .pre in
-    (pre .account-low, pre .contract-low, arrival-room (begun .args .state) (now (begun .args .buys)) (now (begun .args .sells)) (begun .args .o) (c .before .side-area .ensures) (stands .before .place-of .ensures) (stands .listed-at .ensures) (c .by-side .ensures) pre)
+    let pre = begun .pre in (
+      pre .account-low,
+      pre .contract-low,
+      arrival-room (begun .args .state) (now (begun .args .buys)) (now (begun .args .sells)) (begun .args .o)
+          (c .before .side-area .ensures) (stands .before .place-of .ensures) (stands .listed-at .ensures) (c .by-side .ensures) pre,
+    )
 
 add-listed : tie.Need-add-listed
 add-listed c =
@@ -32,12 +36,11 @@ returns c =
     let counted = c .before .before in
     let stands = listed counted in
     let begun = start (stands .before) in
-    arrival-made (begun .args .state) (now (begun .args .buys)) (now (begun .args .sells)) (begun .args .o) (counted .before .side-area .ensures) (stands .before .place-of .ensures) (stands .listed-at .ensures) (counted .by-side .ensures) _ _ _ (c .before .taker-of .ensures)
+    arrival-made (begun .args .state) (now (begun .args .buys)) (now (begun .args .sells)) (begun .args .o) (counted .before .side-area .ensures)
+    (stands .before .place-of .ensures) (stands .listed-at .ensures) (counted .by-side .ensures) _ _ _ (c .before .taker-of .ensures)
 
 pub arrival-of-spec : {M : Type 1} → statement M
-arrival-of-spec =
-    tie.close
-    (tie.spec
+arrival-of-spec = tie.close (tie.spec
     (λ c κs. search needs)
     (λ c κs. search needs)
     (λ c κs. search needs)

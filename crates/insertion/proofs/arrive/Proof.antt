@@ -21,9 +21,7 @@ returns-2 c =
     buy-arrived _ _ (side .if1 .left) (called .arrive-on2 .ensures)
 
 pub arrive-spec : {M : Type 1} → statement M
-arrive-spec =
-    tie.close
-    (tie.spec
+arrive-spec = tie.close (tie.spec
     (λ c κs. let side = c .before .before in on-side _ _ true (side .if1 .taken) (start (side .before) .pre))  -- arrive-on-requires
     (λ c. search needs)
     (λ c. search needs)

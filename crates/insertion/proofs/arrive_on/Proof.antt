@@ -32,9 +32,7 @@ returns-2 c =
     (rest .rest .ensures) (c .before .entered-on .ensures) (c .accepted .ensures)
 
 pub arrive-on-spec : {M : Type 1} → statement M
-arrive-on-spec =
-    tie.close
-    (tie.spec
+arrive-on-spec = tie.close (tie.spec
     (λ c κs. search needs)
     (λ c κs. search needs)
     (λ c. left-trading (sym (c .before .before .rests-alone .ensures) ∙ not-true _ (c .before .if1 .taken)) (c .left .ensures))  -- returns

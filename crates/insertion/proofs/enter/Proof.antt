@@ -21,9 +21,6 @@ trade-requires c κs =
     let known = decided (matched .before) in
     trades-then (known .arrive .ensures) (matched .match .keys2) (start known .pre)
 
-returns : tie.Need-returns
-returns c = listing-entered (decided (c .before .before .before) .arrive .ensures) (c .before .update .given .1) _ _
-
 returns-2 : tie.Need-returns-2
 returns-2 c =
     let back = c .before .before .before .before in
@@ -32,15 +29,13 @@ returns-2 c =
     traded-then (decided (matched .before) .arrive .ensures) (matched .match .keys2) _ _ (done .trade .ensures)
 
 pub enter-spec : {M : Type 1} → statement M
-enter-spec =
-    tie.close
-    (tie.spec
+enter-spec = tie.close (tie.spec
     (λ c κs. search needs)
     (λ c. search needs)
     trade-requires
     (λ c. search needs)
     (λ c. search needs)
-    returns
+    (λ c. listing-entered (decided (c .before .before .before) .arrive .ensures) (c .before .update .given .1) _ _)  -- returns
     (λ c. search needs)
     (λ c. search needs)
     (λ c. search needs)

@@ -12,9 +12,7 @@ order c =
     listed .before .args .a
 
 pub rested-alone-spec : {M : Type 1} → statement M
-rested-alone-spec =
-    tie.close
-    (tie.spec
+rested-alone-spec = tie.close (tie.spec
     (λ c. rested-auction (order (c .before)) (c .if1 .taken))  -- returns
     (λ c κs. search needs)
     (λ c. let day = c .before in rested-day (order (day .before .before)) (day .before .if1 .left) (day .is-day .ensures) (c .if2 .taken))  -- returns-2

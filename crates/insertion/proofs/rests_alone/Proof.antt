@@ -16,9 +16,7 @@ returns-3 c =
     alone-unmet (begun .args .a) (now (begun .args .opposite)) (begun .args .count) (elsewhere .if1 .left) (read .before .if2 .left) (read .order-at .ensures) (c .is-counterpart .ensures)
 
 pub rests-alone-spec : {M : Type 1} → statement M
-rests-alone-spec =
-    tie.close
-    (tie.spec
+rests-alone-spec = tie.close (tie.spec
     (λ c. let begun = start (c .before) in alone-auction (begun .args .a) (now (begun .args .opposite)) (begun .args .count) (c .if1 .taken))  -- returns
     (λ c. let begun = start (c .before .before) in alone-empty (begun .args .a) (now (begun .args .opposite)) (begun .args .count) (c .before .if1 .left) (c .if2 .taken))  -- returns-2
     (λ c κs. search needs)

@@ -21,27 +21,15 @@ called-2 c =
     let bought = c .before .before .before .before in
     bought .before .before
 
-returns : tie.Need-returns
-returns c =
-    let side = called c .before .before .before .before in
-    side-traded _ _ true (side .if1 .taken) _ _ (called c .trade-on .ensures)
-
-returns-2 : tie.Need-returns-2
-returns-2 c =
-    let side = called-2 c .before .before .before .before in
-    side-traded _ _ false (side .if1 .left) _ _ (called-2 c .trade-on2 .ensures)
-
 pub trade-spec : {M : Type 1} → statement M
-trade-spec =
-    tie.close
-    (tie.spec
+trade-spec = tie.close (tie.spec
     (λ c κs. let side = c .before .before .before in trades-side _ _ true (side .if1 .taken) (start (side .before) .pre))  -- trade-on-requires
     (λ c. search needs)
     (λ c. search needs)
     (λ c. search needs)
-    returns
+    (λ c. let side = called c .before .before .before .before in side-traded _ _ true (side .if1 .taken) _ _ (called c .trade-on .ensures))  -- returns
     (λ c κs. let side = c .before .before .before in trades-side _ _ false (side .if1 .left) (start (side .before) .pre))  -- trade-on-requires-2
     (λ c. search needs)
     (λ c. search needs)
     (λ c. search needs)
-    returns-2)
+    (λ c. let side = called-2 c .before .before .before .before in side-traded _ _ false (side .if1 .left) _ _ (called-2 c .trade-on2 .ensures)))  -- returns-2

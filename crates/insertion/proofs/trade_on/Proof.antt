@@ -26,9 +26,7 @@ returns c =
     traded-on (pre .arrives) (limit .limit-of .ensures) pre (day .is-day .ensures) (entered .enter .ensures) (c .entered-on .ensures)
 
 pub trade-on-spec : {M : Type 1} → statement M
-trade-on-spec =
-    tie.close
-    (tie.spec
+trade-on-spec = tie.close (tie.spec
     (λ c κs. search needs)
     (λ c κs. search needs)
     enter-requires

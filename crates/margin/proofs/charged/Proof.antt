@@ -11,73 +11,33 @@ Inv-loop contracts buys sells a holdings terms buycounts sellcounts account tota
 abbrev μ-loop : tie.MeasureT-loop
 μ-loop contracts buys sells a holdings terms buycounts sellcounts account total₀ c₀ total c = contracts - c
 
-cast-account : tie.Need-cast-account Inv-loop μ-loop
-cast-account c = omega arith
-
-loop-holds : tie.Need-loop-holds Inv-loop μ-loop
-loop-holds c = charging-none _ _ _ _ _ _ _ _ (c .before .before .pre)
-
-mul-contract : tie.Need-mul-contract Inv-loop μ-loop
-mul-contract c = omega arith
-
-array-copy-out-contract : tie.Need-array-copy-out-contract Inv-loop μ-loop
-array-copy-out-contract c = omega arith
-
-mul-h : tie.Need-mul-h Inv-loop μ-loop
-mul-h c = omega arith
-
-array-copy-out-h : tie.Need-array-copy-out-h Inv-loop μ-loop
-array-copy-out-h c = omega arith
-
-mul-buycount : tie.Need-mul-buycount Inv-loop μ-loop
-mul-buycount c = omega arith
-
-array-read-buycount : tie.Need-array-read-buycount Inv-loop μ-loop
-array-read-buycount c = omega arith
-
-mul-sellcount : tie.Need-mul-sellcount Inv-loop μ-loop
-mul-sellcount c = omega arith
-
-array-read-sellcount : tie.Need-array-read-sellcount Inv-loop μ-loop
-array-read-sellcount c = omega arith
-
-charged-in-requires : tie.Need-charged-in-requires Inv-loop μ-loop
-charged-in-requires c κs = c .before .before .before .before .before .before .pre .each _ (c .before .before .loop-test .taken)
+-- back to the start
+abbrev Begun : tie.After-h Inv-loop μ-loop → tie.Start Inv-loop μ-loop
+Begun c = c .before .before .before .before .before .before
 
 add-total : tie.Need-add-total Inv-loop μ-loop
-add-total c = total-fits _ _ _ _ _ _ _ _ (c .before .before .before .before .before .before .before .pre) _ _ _ (c .before .before .before .loop-test .taken) (c .before .before .before .before .loop .inv) (c .charged-in .ensures)
-
-add-c : tie.Need-add-c Inv-loop μ-loop
-add-c c = omega arith
-
-loop-less : tie.Need-loop-less Inv-loop μ-loop
-loop-less c = omega arith
+add-total c = total-fits _ _ _ _ _ _ _ _ (Begun (c .before) .pre) _ _ _ (c .before .before .before .loop-test .taken) (c .before .before .before .before .loop .inv) (c .charged-in .ensures)
 
 loop-again : tie.Need-loop-again Inv-loop μ-loop
-loop-again c = charging-more _ _ _ _ _ _ _ _ (c .before .before .before .before .before .before .before .pre) _ _ _ (c .before .before .before .loop-test .taken) (c .before .before .before .before .loop .inv) (c .charged-in .ensures)
-
-returns : tie.Need-returns Inv-loop μ-loop
-returns c = charging-done _ _ _ _ _ _ _ _ (c .before .before .before .before .pre) _ _ (c .loop-test .left) (c .before .loop .inv)
+loop-again c = charging-more _ _ _ _ _ _ _ _ (Begun (c .before) .pre) _ _ _ (c .before .before .before .loop-test .taken) (c .before .before .before .before .loop .inv) (c .charged-in .ensures)
 
 pub charged-spec : {M : Type 1} → statement M
-charged-spec =
-    tie.close
-    (tie.spec
+charged-spec = tie.close (tie.spec
     Inv-loop
     μ-loop
-    cast-account
-    loop-holds
-    mul-contract
-    array-copy-out-contract
-    mul-h
-    array-copy-out-h
-    mul-buycount
-    array-read-buycount
-    mul-sellcount
-    array-read-sellcount
-    charged-in-requires
+    (λ c. omega arith)  -- cast-account
+    (λ c. charging-none _ _ _ _ _ _ _ _ (c .before .before .pre))  -- loop-holds
+    (λ c. omega arith)  -- mul-contract
+    (λ c. omega arith)  -- array-copy-out-contract
+    (λ c. omega arith)  -- mul-h
+    (λ c. omega arith)  -- array-copy-out-h
+    (λ c. omega arith)  -- mul-buycount
+    (λ c. omega arith)  -- array-read-buycount
+    (λ c. omega arith)  -- mul-sellcount
+    (λ c. omega arith)  -- array-read-sellcount
+    (λ c κs. Begun c .pre .each _ (c .before .before .loop-test .taken))  -- charged-in-requires
     add-total
-    add-c
-    loop-less
+    (λ c. omega arith)  -- add-c
+    (λ c. omega arith)  -- loop-less
     loop-again
-    returns)
+    (λ c. charging-done _ _ _ _ _ _ _ _ (c .before .before .before .before .pre) _ _ (c .loop-test .left) (c .before .loop .inv)))  -- returns

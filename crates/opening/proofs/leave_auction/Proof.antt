@@ -5,115 +5,103 @@ use Rattle.opening.proofs.Uncrossing.{contract-low, place-fits, queues,
 use Rattle.opening.proofs.leave_auction.Statement.{statement}
 use Rattle.opening.proofs.leave_auction.Tie as tie
 
-place-of-requires : tie.Need-place-of-requires
-place-of-requires c κs = contract-low (c .before .before .before .pre .0) _ (c .before .before .before .pre .1)
+-- back to the start
+abbrev Begun : tie.After-sellcounts → tie.Start
+Begun c = c .before .before .before .before .before .before
 
-mul-bought : tie.Need-mul-bought
-mul-bought c = search needs
+-- back to where `place-of` is known
+abbrev Place-of : tie.After-chosen-arg2 → tie.After-place-of
+Place-of c = c .before .before .before .before .before .before
 
-array-read-bought : tie.Need-array-read-bought
-array-read-bought c = place-fits (c .before .before .before .before .before .before .pre .0) _ (c .before .before .before .before .before .before .pre .1) (c .before .before .place-of .ensures)
+-- back to the call of `chosen`
+abbrev Chosen : tie.After-struct-known → tie.After-chosen
+Chosen c = c .before .before .before .before
 
-mul-sold : tie.Need-mul-sold
-mul-sold c = search needs
+-- back to the test `rules::MAX_TRADES < state.tradecount + needed`
+abbrev Past-state : tie.After-match-queues-arg3 → tie.Else1
+Past-state c = c .before .before .before .before
 
-array-read-sold : tie.Need-array-read-sold
-array-read-sold c = place-fits (c .before .before .before .before .before .before .pre .0) _ (c .before .before .before .before .before .before .pre .1) (c .before .before .place-of .ensures)
-
-mul-terms : tie.Need-mul-terms
-mul-terms c = search needs
-
-array-copy-out-terms : tie.Need-array-copy-out-terms
-array-copy-out-terms c = place-fits (c .before .before .before .before .before .before .before .pre .0) _ (c .before .before .before .before .before .before .before .pre .1) (c .before .before .before .place-of .ensures)
+-- back to the call of `match-queues`
+abbrev Match-queues : tie.After-held → tie.After-match-queues
+Match-queues c = c .before .before .before .before .before .before .before
 
 chosen-requires : tie.Need-chosen-requires
-chosen-requires c κs = queues (c .before .before .before .before .before .before .before .before .before .before .pre .0) _ (c .before .before .before .before .before .before .before .before .before .before .pre .1) (c .before .before .before .before .before .before .place-of .ensures)
+chosen-requires c κs = queues (Place-of c .before .before .before .before .pre .0) _ (Place-of c .before .before .before .before .pre .1) (Place-of c .place-of .ensures)
 
 trades-needed-requires : tie.Need-trades-needed-requires
-trades-needed-requires c κs = queues (c .before .before .before .before .before .before .before .before .before .before .before .before .before .pre .0) _ (c .before .before .before .before .before .before .before .before .before .before .before .before .before .pre .1) (c .before .before .before .before .before .before .before .before .before .place-of .ensures)
+trades-needed-requires c κs =
+    let place-of = Place-of (c .before .before .before) in
+    queues (place-of .before .before .before .before .pre .0) _ (place-of .before .before .before .before .pre .1) (place-of .place-of .ensures)
 
 add-if1 : tie.Need-add-if1
 add-if1 c =
-    let start = c .before .before .before .before .before .before .before .before .before .before .before .before .before .before .before in
-    omega (arith, needed-few (start .pre .0) _ (start .pre .1) (c .before .before .before .before .before .before .before .before .before .before .before .place-of .ensures) (c .before .before .before .before .chosen .ensures) (c .before .trades-needed .ensures))
+    let place-of = Place-of (Chosen c .before) in
+    let start = place-of .before .before .before .before in
+    omega (arith, needed-few (start .pre .0) _ (start .pre .1) (place-of .place-of .ensures) (c .before .before .before .before .chosen .ensures) (c .before .trades-needed .ensures))
 
 refused-requires : tie.Need-refused-requires
 refused-requires c κs =
     let room = c .before .before in
     let level = room .before .before .before in
-    let place = level .before .before .before .before .before .before .before in
+    let place = Place-of (level .before) in
     let start = place .before .before .before .before in
     place-fits (start .pre .0) _ (start .pre .1) (place .place-of .ensures)
 
-same-length : tie.Need-same-length
-same-length c = search needs
-
-same-length-2 : tie.Need-same-length-2
-same-length-2 c = search needs
-
 returns : tie.Need-returns
 returns c =
-    let start = c .before .before .before .before .before .before .before .before .before .before .before .before .before .before .before .before .before in
-    left-full (start .pre .0) _ (start .pre .1) (c .before .before .before .before .before .before .before .before .before .before .before .before .before .place-of .ensures) (c .before .before .before .before .before .before .chosen .ensures) (c .before .before .before .trades-needed .ensures) (c .before .if1 .taken) (c .refused .ensures)
+    let place-of = Place-of (Chosen (c .before .before) .before) in
+    let start = place-of .before .before .before .before in
+    left-full (start .pre .0) _ (start .pre .1) (place-of .place-of .ensures) (Chosen (c .before .before) .chosen .ensures)
+    (c .before .before .before .trades-needed .ensures) (c .before .if1 .taken) (c .refused .ensures)
 
 place-word-requires : tie.Need-place-word-requires
 place-word-requires c κs =
-    let start = c .before .before .before .before .before .before .before .before .before .before .before .before .before .before .before .before .before .before .before .before in
+    let start = Place-of (Chosen (Past-state c .before) .before) .before .before .before .before in
     contract-low (start .pre .0) _ (start .pre .1)
 
 match-queues-requires : tie.Need-match-queues-requires
 match-queues-requires c κs =
-    let place = c .before .before .before .before .before .before .before .before .before .before .before .before .before .before .before .before .before in
+    let place = Place-of (Chosen (Past-state (c .before) .before) .before) in
     let start = place .before .before .before .before in
-    left-ready (start .pre .0) _ (start .pre .1) (place .place-of .ensures) (c .before .before .before .before .before .before .before .before .before .before .chosen .ensures) (c .before .before .before .before .before .before .before .trades-needed .ensures) (c .before .before .before .before .before .if1 .left) (c .place-word .ensures)
+    left-ready (start .pre .0) _ (start .pre .1) (place .place-of .ensures) (Chosen (Past-state (c .before) .before) .chosen .ensures)
+    (Past-state (c .before) .before .before .trades-needed .ensures) (Past-state (c .before) .if1 .left) (c .place-word .ensures)
 
 with-match-requires : tie.Need-with-match-requires
 with-match-requires c κs =
-    let place = c .before .before .before .before .before .before .before .before .before .before .before .before .before .before .before .before .before .before .before .before .before .before .before .before .before in
+    let place = Place-of (Chosen (Past-state (Match-queues c .before .before) .before) .before) in
     let start = place .before .before .before .before in
     place-fits (start .pre .0) _ (start .pre .1) (place .place-of .ensures)
 
-same-length-3 : tie.Need-same-length-3
-same-length-3 c = search needs
-
-same-length-4 : tie.Need-same-length-4
-same-length-4 c = search needs
-
-same-length-5 : tie.Need-same-length-5
-same-length-5 c = search needs
-
 returns-2 : tie.Need-returns-2
 returns-2 c =
-    let room = c .before .before .before .before .before .before .before .before .before .before .before .before .before .before in
+    let room = Past-state (Match-queues (c .before) .before .before) in
     let needed = room .before .before in
     let level = needed .before .before .before in
-    let place = level .before .before .before .before .before .before .before in
+    let place = Place-of (level .before) in
     let start = place .before .before .before .before in
     left-accepted (start .pre .0) _ (start .pre .1) (place .place-of .ensures) (level .chosen .ensures) (needed .trades-needed .ensures) (room .if1 .left)
-    (c .before .before .before .before .before .before .before .before .before .place-word .ensures) (c .before .before .before .before .before .before .before .before .match-queues .ensures) (c .with-match .ensures)
+    (Match-queues (c .before) .before .place-word .ensures) (Match-queues (c .before) .match-queues .ensures) (c .with-match .ensures)
 
 pub leave-auction-spec : {M : Type 1} → statement M
-leave-auction-spec =
-    tie.close
-    (tie.spec
-    place-of-requires
-    mul-bought
-    array-read-bought
-    mul-sold
-    array-read-sold
-    mul-terms
-    array-copy-out-terms
+leave-auction-spec = tie.close (tie.spec
+    (λ c κs. contract-low (c .before .before .before .pre .0) _ (c .before .before .before .pre .1))  -- place-of-requires
+    (λ c. search needs)  -- mul-bought
+    (λ c. place-fits (Begun c .pre .0) _ (Begun c .pre .1) (c .before .before .place-of .ensures))  -- array-read-bought
+    (λ c. search needs)  -- mul-sold
+    (λ c. place-fits (Begun c .pre .0) _ (Begun c .pre .1) (c .before .before .place-of .ensures))  -- array-read-sold
+    (λ c. search needs)  -- mul-terms
+    (λ c. place-fits (Begun (c .before) .pre .0) _ (Begun (c .before) .pre .1) (c .before .before .before .place-of .ensures))  -- array-copy-out-terms
     chosen-requires
     trades-needed-requires
     add-if1
     refused-requires
-    same-length
-    same-length-2
+    (λ c. search needs)  -- same-length
+    (λ c. search needs)  -- same-length-2
     returns
     place-word-requires
     match-queues-requires
     with-match-requires
-    same-length-3
-    same-length-4
-    same-length-5
+    (λ c. search needs)  -- same-length-3
+    (λ c. search needs)  -- same-length-4
+    (λ c. search needs)  -- same-length-5
     returns-2)

@@ -7,18 +7,6 @@ use Rattle.prices.proofs.paired_price.Tie as tie
 enum-told : tie.Need-enum-told
 enum-told c = search needs
 
-middle-requires : tie.Need-middle-requires
-middle-requires c κs = search needs
-
-enum-known-method : tie.Need-enum-known-method
-enum-known-method c = search needs
-
-average-requires : tie.Need-average-requires
-average-requires c κs = rw (c .before .method .given .1) at (c .before .before .before .pre)
-
-enum-told-2 : tie.Need-enum-told-2
-enum-told-2 c = search needs
-
 returns : tie.Need-returns
 unfolding pairedPrice
 returns c = rw (c .before .enum-told .given .1) (c .middle .ensures)
@@ -32,14 +20,12 @@ unfolding pairedPrice
 returns-3 c = rw (c .enum-told2 .given .1)
 
 pub paired-price-spec : {M : Type 1} → statement M
-paired-price-spec =
-    tie.close
-    (tie.spec
+paired-price-spec = tie.close (tie.spec
     enum-told
-    middle-requires
-    enum-known-method
-    average-requires
-    enum-told-2
+    (λ c κs. search needs)  -- middle-requires
+    (λ c. search needs)  -- enum-known-method
+    (λ c κs. rw (c .before .method .given .1) at (c .before .before .before .pre))  -- average-requires
+    (λ c. search needs)  -- enum-told-2
     returns
     returns-2
     returns-3)

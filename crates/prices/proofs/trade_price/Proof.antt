@@ -4,17 +4,8 @@ use Rattle.rules.specs.Matching.{tradePrice}
 use Rattle.prices.proofs.trade_price.Statement.{statement}
 use Rattle.prices.proofs.trade_price.Tie as tie
 
-enum-known-condition : tie.Need-enum-known-condition
-enum-known-condition c = search needs
-
-paired-price-requires : tie.Need-paired-price-requires
-paired-price-requires c κs = search needs
-
 enum-told : tie.Need-enum-told
 enum-told c = search needs
-
-enum-told-2 : tie.Need-enum-told-2
-enum-told-2 c = search needs
 
 returns : tie.Need-returns
 unfolding tradePrice
@@ -29,13 +20,11 @@ unfolding tradePrice
 returns-3 c = rw (c .enum-told2 .given .1)
 
 pub trade-price-spec : {M : Type 1} → statement M
-trade-price-spec =
-    tie.close
-    (tie.spec
-    enum-known-condition
-    paired-price-requires
+trade-price-spec = tie.close (tie.spec
+    (λ c. search needs)  -- enum-known-condition
+    (λ c κs. search needs)  -- paired-price-requires
     enum-told
-    enum-told-2
+    (λ c. search needs)  -- enum-told-2
     returns
     returns-2
     returns-3)

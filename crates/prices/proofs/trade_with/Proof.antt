@@ -4,12 +4,6 @@ use Rattle.rules.specs.Matching.{tradeWith}
 use Rattle.prices.proofs.trade_with.Statement.{statement}
 use Rattle.prices.proofs.trade_with.Tie as tie
 
-trade-price-requires : tie.Need-trade-price-requires
-trade-price-requires c κs = search needs
-
-smaller-requires : tie.Need-smaller-requires
-smaller-requires c κs = search needs
-
 returns : tie.Need-returns
 unfolding tradeWith
 returns c = rw (c .if1 .taken, c .before .before .trade-price .ensures, c .before .smaller .ensures)
@@ -19,4 +13,8 @@ unfolding tradeWith
 returns-2 c = rw (c .if1 .left, c .before .before .trade-price .ensures, c .before .smaller .ensures)
 
 pub trade-with-spec : {M : Type 1} → statement M
-trade-with-spec = tie.close (tie.spec trade-price-requires smaller-requires returns returns-2)
+trade-with-spec = tie.close (tie.spec
+    (λ c κs. search needs)  -- trade-price-requires
+    (λ c κs. search needs)  -- smaller-requires
+    returns
+    returns-2)

@@ -10,12 +10,6 @@ returns : tie.Need-returns
 unfolding legCovered holdingAt accountAt
 returns c = rw (eq-eqb _ _ (c .if1 .taken))
 
-mul-h : tie.Need-mul-h
-mul-h c = search needs
-
-element-copy-out-h : tie.Need-element-copy-out-h
-element-copy-out-h c = search needs
-
 returns-2 : tie.Need-returns-2
 unfolding legCovered holdingAt accountAt
 returns-2 c = rw (ne-eqb _ _ (c .before .before .before .if1 .left), c .before .if2 .taken)
@@ -25,4 +19,9 @@ unfolding legCovered holdingAt accountAt
 returns-3 c = rw (ne-eqb _ _ (c .before .before .before .if1 .left), c .before .if2 .left)
 
 pub is-covered-spec : {M : Type 1} → statement M
-is-covered-spec = tie.close (tie.spec returns mul-h element-copy-out-h returns-2 returns-3)
+is-covered-spec = tie.close (tie.spec
+    returns
+    (λ c. search needs)  -- mul-h
+    (λ c. search needs)  -- element-copy-out-h
+    returns-2
+    returns-3)

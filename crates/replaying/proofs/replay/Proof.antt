@@ -17,146 +17,114 @@ Inv-loop accounts contracts accountcount area count held₀ i₀ held i = Going 
 abbrev μ-loop : tie.MeasureT-loop
 μ-loop accounts contracts accountcount area count held₀ i₀ held i = count - i
 
-loop-holds : tie.Need-loop-holds Inv-loop μ-loop
-loop-holds c =
-    going-first (c .before .pre .fit) (c .before .pre .trades) (search (needs, unmapped)) (c .before .pre .held)
+-- back to the start
+abbrev Begun : tie.After-wide Inv-loop μ-loop → tie.Start Inv-loop μ-loop
+Begun c = c .before .before .before .before .before
 
-trade-at-requires : tie.Need-trade-at-requires Inv-loop μ-loop
-trade-at-requires c κs = omega (arith, c .before .before .before .pre .room, c .loop-test .taken)
+-- back to the call of `trade-at`
+abbrev Trade-at : tie.After-is-covered Inv-loop μ-loop → tie.After-trade-at Inv-loop μ-loop
+Trade-at c = c .before .before .before .before
+
+-- back to the call of `wide`
+abbrev Wide : tie.After-book-leg Inv-loop μ-loop → tie.After-wide Inv-loop μ-loop
+Wide c = c .before .before .before .before .before .before
+
+-- back to the call whose answer is `buyer`
+abbrev Buyer : tie.After-is-covered Inv-loop μ-loop → tie.After-wide2 Inv-loop μ-loop
+Buyer c = c .before .before
+
+-- back to the call of `book-leg`
+abbrev Book-leg : tie.After-book-leg-arg2 Inv-loop μ-loop → tie.After-book-leg Inv-loop μ-loop
+Book-leg c = c .before .before .before .before .before
+
+-- back to the call whose answer is `seller`
+abbrev Seller : tie.After-is-covered2 Inv-loop μ-loop → tie.After-wide3 Inv-loop μ-loop
+Seller c = c .before .before
 
 -- the trade read is of contracts and accounts in use
 trade : (c : tie.After-trade-at Inv-loop μ-loop) → Booked (c .before .before .before .before .args .contracts) (c .before .before .before .before .args .accountcount) (c .trade-at .result)
 trade c = trade-read _ _ _ (c .before .loop-test .taken) (c .trade-at .ensures) (c .before .before .before .before .pre .each _ (c .before .loop-test .taken))
 
-wide-requires : tie.Need-wide-requires Inv-loop μ-loop
-wide-requires c κs = search needs
-
-wide-requires-2 : tie.Need-wide-requires-2 Inv-loop μ-loop
-wide-requires-2 c κs = search needs
-
 contract : (c : tie.After-wide Inv-loop μ-loop) → c .wide .result < 4
-contract c = omega (arith, c .wide .ensures, trade (c .before) .contract, c .before .before .before .before .before .pre .few)
+contract c = omega (arith, c .wide .ensures, trade (c .before) .contract, Begun c .pre .few)
 
 buyer : (c : tie.After-wide2 Inv-loop μ-loop) → c .wide2 .result < 32
-buyer c = omega (arith, c .wide2 .ensures, trade (c .before .before) .buyer, c .before .before .before .before .before .before .pre .fit)
-
-mul-is-covered : tie.Need-mul-is-covered Inv-loop μ-loop
-mul-is-covered c = omega (arith, buyer c)
-
-array-copy-out-is-covered : tie.Need-array-copy-out-is-covered Inv-loop μ-loop
-array-copy-out-is-covered c = buyer c
-
-is-covered-requires : tie.Need-is-covered-requires Inv-loop μ-loop
-is-covered-requires c κs = contract (c .before .before)
+buyer c = omega (arith, c .wide2 .ensures, trade (c .before .before) .buyer, Begun (c .before) .pre .fit)
 
 returns : tie.Need-returns Inv-loop μ-loop
 returns c =
-    buyer-short (c .before .before .before .before .before .before .before .loop .inv) (c .before .before .before .before .before .before .loop-test .taken) (c .before .before .before .before .before .trade-at .ensures) (trade (c .before .before .before .before .before)) (c .before .before .before .wide2 .ensures) (c .before .before .before .before .wide .ensures) (refused (c .before .is-covered .ensures) (c .if1 .taken))
-
-mul-book-leg : tie.Need-mul-book-leg Inv-loop μ-loop
-mul-book-leg c = omega (arith, buyer (c .before .before .before))
-
-array-copy-out-book-leg : tie.Need-array-copy-out-book-leg Inv-loop μ-loop
-array-copy-out-book-leg c = buyer (c .before .before .before)
+    let trade-at = Trade-at (c .before) in
+    buyer-short (trade-at .before .before .loop .inv) (trade-at .before .loop-test .taken) (trade-at .trade-at .ensures) (trade trade-at)
+    (c .before .before .before .wide2 .ensures) (c .before .before .before .before .wide .ensures) (refused (c .before .is-covered .ensures) (c .if1 .taken))
 
 book-leg-requires : tie.Need-book-leg-requires Inv-loop μ-loop
 book-leg-requires c κs =
-    (contract (c .before .before .before .before .before), trade (c .before .before .before .before .before .before) .lots, buyer-fits (c .before .before .before .before .before .before .before .before .loop .inv) (c .before .before .before .before .before .before .before .loop-test .taken) (c .before .before .before .before .before .before .trade-at .ensures) (trade (c .before .before .before .before .before .before)) (c .before .before .before .before .wide2 .ensures) (c .before .before .before .before .before .wide .ensures))
-
-mul-held : tie.Need-mul-held Inv-loop μ-loop
-mul-held c = omega (arith, buyer (c .before .before .before .before .before))
-
-array-set-from-held : tie.Need-array-set-from-held Inv-loop μ-loop
-array-set-from-held c = buyer (c .before .before .before .before .before)
-
-wide-requires-3 : tie.Need-wide-requires-3 Inv-loop μ-loop
-wide-requires-3 c κs = search needs
+    let buyer = Buyer (c .before .before) in
+    let trade-at = Trade-at (c .before .before) in (
+      contract (buyer .before),
+      trade trade-at .lots,
+      buyer-fits (trade-at .before .before .loop .inv) (trade-at .before .loop-test .taken)
+          (trade-at .trade-at .ensures) (trade trade-at) (c .before .before .before .before .wide2 .ensures) (buyer .before .wide .ensures),
+    )
 
 seller : (c : tie.After-wide3 Inv-loop μ-loop) → c .wide3 .result < 32
-seller c = omega (arith, c .wide3 .ensures, trade (c .before .before .before .before .before .before .before .before) .seller, c .before .before .before .before .before .before .before .before .before .before .before .before .pre .fit)
+seller c = omega (arith, c .wide3 .ensures, trade (Wide (c .before) .before) .seller, Begun (Wide (c .before)) .pre .fit)
 
 -- between the two legs
 bought : (c : tie.After-book-leg Inv-loop μ-loop)
-    → let a = c .before .before .before .before .before .before .before .before .before .before .before .args in
-    Bought (a .accounts) (a .contracts) (a .accountcount) (a .area .now) (a .count) (set (c .before .before .before .before .before .before .before .before .before .loop .held) (c .before .before .before .before .before .wide2 .result) (c .book-leg .result)) (c .before .before .before .before .before .before .before .before .before .loop .i) (c .before .before .before .before .before .before .before .trade-at .result)
+    → let a = Begun (Wide c) .args in
+    Bought (a .accounts) (a .contracts) (a .accountcount) (a .area .now) (a .count) (set (Wide c .before .before .before .loop .held)
+    (Buyer (c .before .before .before) .wide2 .result) (c .book-leg .result)) (Wide c .before .before .before .loop .i) (Wide c .before .trade-at .result)
 bought c =
-    buyer-booked (c .before .before .before .before .before .before .before .before .before .loop .inv) (c .before .before .before .before .before .before .before .before .loop-test .taken) (c .before .before .before .before .before .before .before .trade-at .ensures) (trade (c .before .before .before .before .before .before .before)) (c .before .before .before .before .before .wide2 .ensures) (c .before .before .before .before .before .before .wide .ensures)
+    let wide = Wide c in
+    let buyer = Buyer (c .before .before .before) in
+    buyer-booked (wide .before .before .before .loop .inv) (wide .before .before .loop-test .taken) (wide .before .trade-at .ensures)
+    (trade (wide .before)) (buyer .wide2 .ensures) (wide .wide .ensures)
     (passed (c .before .before .before .is-covered .ensures) (c .before .before .if1 .left)) (c .book-leg .ensures)
-
-mul-is-covered-2 : tie.Need-mul-is-covered-2 Inv-loop μ-loop
-mul-is-covered-2 c = omega (arith, seller c)
-
-array-copy-out-is-covered-2 : tie.Need-array-copy-out-is-covered-2 Inv-loop μ-loop
-array-copy-out-is-covered-2 c = seller c
-
-is-covered-requires-2 : tie.Need-is-covered-requires-2 Inv-loop μ-loop
-is-covered-requires-2 c κs = contract (c .before .before .before .before .before .before .before .before)
 
 returns-2 : tie.Need-returns-2 Inv-loop μ-loop
 returns-2 c =
-    seller-short (bought (c .before .before .before .before)) (c .before .before .before .wide3 .ensures) (c .before .before .before .before .before .before .before .before .before .before .wide .ensures) (refused (c .before .is-covered2 .ensures) (c .if2 .taken))
-
-mul-book-leg-2 : tie.Need-mul-book-leg-2 Inv-loop μ-loop
-mul-book-leg-2 c = omega (arith, seller (c .before .before .before))
-
-array-copy-out-book-leg-2 : tie.Need-array-copy-out-book-leg-2 Inv-loop μ-loop
-array-copy-out-book-leg-2 c = seller (c .before .before .before)
+    seller-short (bought (c .before .before .before .before)) (c .before .before .before .wide3 .ensures) (Wide (c .before .before .before .before) .wide .ensures)
+    (refused (c .before .is-covered2 .ensures) (c .if2 .taken))
 
 book-leg-requires-2 : tie.Need-book-leg-requires-2 Inv-loop μ-loop
 book-leg-requires-2 c κs =
-    (contract (c .before .before .before .before .before .before .before .before .before .before .before), trade (c .before .before .before .before .before .before .before .before .before .before .before .before) .lots, seller-fits (bought (c .before .before .before .before .before)) (c .before .before .before .before .wide3 .ensures) (c .before .before .before .before .before .before .before .before .before .before .before .wide .ensures))
-
-mul-held-2 : tie.Need-mul-held-2 Inv-loop μ-loop
-mul-held-2 c = omega (arith, seller (c .before .before .before .before .before))
-
-array-set-from-held-2 : tie.Need-array-set-from-held-2 Inv-loop μ-loop
-array-set-from-held-2 c = seller (c .before .before .before .before .before)
-
-add-i : tie.Need-add-i Inv-loop μ-loop
-add-i c =
-    omega (arith, c .before .before .before .before .before .before .before .before .before .before .before .before .before .before .loop-test .taken, c .before .before .before .before .before .before .before .before .before .before .before .before .before .before .before .before .before .pre .trades)
-
-loop-less : tie.Need-loop-less Inv-loop μ-loop
-loop-less c =
-    omega (arith, c .before .before .before .before .before .before .before .before .before .before .before .before .before .before .loop-test .taken)
+    let wide = Wide (Book-leg c) in
+    (contract wide, trade (wide .before) .lots, seller-fits (bought (Book-leg c)) (c .before .before .before .before .wide3 .ensures) (wide .wide .ensures))
 
 loop-again : tie.Need-loop-again Inv-loop μ-loop
 loop-again c =
-    seller-booked (bought (c .before .before .before .before .before .before)) (c .before .before .before .before .before .wide3 .ensures) (c .before .before .before .before .before .before .before .before .before .before .before .before .wide .ensures) (passed (c .before .before .before .is-covered2 .ensures) (c .before .before .if2 .left)) (c .book-leg2 .ensures)
-
-returns-3 : tie.Need-returns-3 Inv-loop μ-loop
-returns-3 c = all-covered (c .before .loop .inv) (c .loop-test .left)
+    seller-booked (bought (Book-leg (c .before))) (Seller (c .before .before .before) .wide3 .ensures) (Wide (Book-leg (c .before)) .wide .ensures)
+    (passed (c .before .before .before .is-covered2 .ensures) (c .before .before .if2 .left)) (c .book-leg2 .ensures)
 
 pub replay-spec : {M : Type 1} → statement M
-replay-spec =
-    tie.close
-    (tie.spec
+replay-spec = tie.close (tie.spec
     Inv-loop
     μ-loop
-    loop-holds
-    trade-at-requires
-    wide-requires
-    wide-requires-2
-    mul-is-covered
-    array-copy-out-is-covered
-    is-covered-requires
+    (λ c. going-first (c .before .pre .fit) (c .before .pre .trades) (search (needs, unmapped)) (c .before .pre .held))  -- loop-holds
+    (λ c κs. omega (arith, c .before .before .before .pre .room, c .loop-test .taken))  -- trade-at-requires
+    (λ c κs. search needs)  -- wide-requires
+    (λ c κs. search needs)  -- wide-requires-2
+    (λ c. omega (arith, buyer c))  -- mul-is-covered
+    (λ c. buyer c)  -- array-copy-out-is-covered
+    (λ c κs. contract (c .before .before))  -- is-covered-requires
     returns
-    mul-book-leg
-    array-copy-out-book-leg
+    (λ c. omega (arith, buyer (c .before .before .before)))  -- mul-book-leg
+    (λ c. buyer (c .before .before .before))  -- array-copy-out-book-leg
     book-leg-requires
-    mul-held
-    array-set-from-held
-    wide-requires-3
-    mul-is-covered-2
-    array-copy-out-is-covered-2
-    is-covered-requires-2
+    (λ c. omega (arith, buyer (Buyer (c .before .before .before))))  -- mul-held
+    (λ c. buyer (Buyer (c .before .before .before)))  -- array-set-from-held
+    (λ c κs. search needs)  -- wide-requires-3
+    (λ c. omega (arith, seller c))  -- mul-is-covered-2
+    (λ c. seller c)  -- array-copy-out-is-covered-2
+    (λ c κs. contract (Wide (c .before .before)))  -- is-covered-requires-2
     returns-2
-    mul-book-leg-2
-    array-copy-out-book-leg-2
+    (λ c. omega (arith, seller (c .before .before .before)))  -- mul-book-leg-2
+    (λ c. seller (c .before .before .before))  -- array-copy-out-book-leg-2
     book-leg-requires-2
-    mul-held-2
-    array-set-from-held-2
-    add-i
-    loop-less
+    (λ c. omega (arith, seller (Seller (c .before .before .before))))  -- mul-held-2
+    (λ c. seller (Seller (c .before .before .before)))  -- array-set-from-held-2
+    (λ c. omega (arith, Wide (Book-leg (c .before)) .before .before .loop-test .taken, Begun (Wide (Book-leg (c .before))) .pre .trades))  -- add-i
+    (λ c. omega (arith, Wide (Book-leg (c .before)) .before .before .loop-test .taken))  -- loop-less
     loop-again
-    returns-3)
+    (λ c. all-covered (c .before .loop .inv) (c .loop-test .left)))  -- returns-3

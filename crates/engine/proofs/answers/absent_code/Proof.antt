@@ -10,15 +10,6 @@ use Rattle.engine.proofs.answers.absent_code.Tie as tie
 account : (c : tie.Else1) → isAbsent (c .before .before .args .account) (c .before .before .args .accounts) ≡ false
 account c = sym (c .before .is-absent .ensures) ∙ c .if1 .left
 
-is-absent-requires : tie.Need-is-absent-requires
-is-absent-requires c κs = search needs
-
-returns : tie.Need-returns
-returns c = account-absent (c .before .before .pre) _ _ (sym (c .before .is-absent .ensures) ∙ c .if1 .taken)
-
-is-absent-requires-2 : tie.Need-is-absent-requires-2
-is-absent-requires-2 c κs = search needs
-
 returns-2 : tie.Need-returns-2
 returns-2 c = contract-absent (c .before .before .before .before .pre) _ _ (account (c .before .before)) (sym (c .before .is-absent2 .ensures) ∙ c .if2 .taken)
 
@@ -26,4 +17,9 @@ returns-3 : tie.Need-returns-3
 returns-3 c = none-absent (c .before .before .before .before .pre) _ _ (account (c .before .before)) (sym (c .before .is-absent2 .ensures) ∙ c .if2 .left)
 
 pub absent-code-spec : {M : Type 1} → statement M
-absent-code-spec = tie.close (tie.spec is-absent-requires returns is-absent-requires-2 returns-2 returns-3)
+absent-code-spec = tie.close (tie.spec
+    (λ c κs. search needs)  -- is-absent-requires
+    (λ c. account-absent (c .before .before .pre) _ _ (sym (c .before .is-absent .ensures) ∙ c .if1 .taken))  -- returns
+    (λ c κs. search needs)  -- is-absent-requires-2
+    returns-2
+    returns-3)

@@ -4,14 +4,8 @@ use borrow.Author.Tests.{eq-eqb, ne-eqb}
 use Rattle.engine.proofs.answers.is_absent.Statement.{statement}
 use Rattle.engine.proofs.answers.is_absent.Tie as tie
 
-returns : tie.Need-returns
-returns c = rw (eq-eqb _ _ (c .if1 .taken))
-
-wide-requires : tie.Need-wide-requires
-wide-requires c κs = search needs
-
-returns-2 : tie.Need-returns-2
-returns-2 c = rw (ne-eqb _ _ (c .before .if1 .left), ← c .wide .ensures)
-
 pub is-absent-spec : {M : Type 1} → statement M
-is-absent-spec = tie.close (tie.spec returns wide-requires returns-2)
+is-absent-spec = tie.close (tie.spec
+    (λ c. rw (eq-eqb _ _ (c .if1 .taken)))  -- returns
+    (λ c κs. search needs)  -- wide-requires
+    (λ c. rw (ne-eqb _ _ (c .before .if1 .left), ← c .wide .ensures)))  -- returns-2

@@ -40,7 +40,8 @@ returns-3 c =
     let pre = start (tested right) .pre in
     let present = sym (tested right .is-absent .ensures) ∙ right .before .before .if1 .left in
     deposit-high (pre .0) _ _ present (pre .1) (sym (right .before .amount-refused .ensures) ∙ right .if2 .left)
-    (back balanceMost (omega arith) (balance-fits (pre .0) (start (tested right) .args .account) present (pre .1))) (c .before .before .lifts-too-high .ensures) (c .before .if3 .taken) (c .refused3 .ensures)
+    (back balanceMost (omega arith) (balance-fits (pre .0) (start (tested right) .args .account) present (pre .1))) (c .before .before .lifts-too-high .ensures)
+    (c .before .if3 .taken) (c .refused3 .ensures)
 
 place-of-requires : tie.Need-place-of-requires
 place-of-requires c κs =
@@ -72,9 +73,7 @@ returns-4 c =
     (add-back fits (within-pos (amount-high _ small)) (omega arith)) (c .paid .ensures)
 
 pub deposit-spec : {M : Type 1} → statement M
-deposit-spec =
-    tie.close
-    (tie.spec
+deposit-spec = tie.close (tie.spec
     (λ c κs. search needs)
     (λ c κs. search needs)
     returns

@@ -6,17 +6,9 @@ use borrow.Author.Needs.{needs}
 use Rattle.engine.proofs.payments.lifts_too_high.Statement.{statement}
 use Rattle.engine.proofs.payments.lifts_too_high.Tie as tie
 
-cast-result : tie.Need-cast-result
-cast-result c = search needs
-
-cast-result-2 : tie.Need-cast-result-2
-cast-result-2 c = search needs
-
-add-result : tie.Need-add-result
-add-result c = add-fits (c .pre .0) (within-pos (c .pre .1)) (omega arith)
-
-returns : tie.Need-returns
-returns c = rw (add-back (c .pre .0) (within-pos (c .pre .1)) (omega arith))
-
 pub lifts-too-high-spec : {M : Type 1} → statement M
-lifts-too-high-spec = tie.close (tie.spec cast-result cast-result-2 add-result returns)
+lifts-too-high-spec = tie.close (tie.spec
+    (λ c. search needs)  -- cast-result
+    (λ c. search needs)  -- cast-result-2
+    (λ c. add-fits (c .pre .0) (within-pos (c .pre .1)) (omega arith))  -- add-result
+    (λ c. rw (add-back (c .pre .0) (within-pos (c .pre .1)) (omega arith))))  -- returns

@@ -32,9 +32,6 @@ returns-2 c =
     withdraw-amount (start (account .before) .pre .0) _ _ (sym (account .before .is-absent .ensures) ∙ account .if1 .left) (sym (c .before .before .amount-refused .ensures) ∙ c .before .if2 .taken)
     (c .refused2 .ensures)
 
-place-of-requires : tie.Need-place-of-requires
-place-of-requires c κs = place-below _ _ (sym (tested c .is-absent .ensures) ∙ c .before .before .if1 .left) .0
-
 cast-left : tie.Need-cast-left
 cast-left c = within-fits (10 ^ 15) (omega arith) (within-pos (amount-high _ (sym (c .before .before .amount-refused .ensures) ∙ c .before .if2 .left)))
 
@@ -62,7 +59,8 @@ returns-3 c =
     let present = sym (tested right .is-absent .ensures) ∙ right .before .before .if1 .left in
     let small = sym (right .before .amount-refused .ensures) ∙ right .if2 .left in
     withdraw-short (pre .0) _ _ present (pre .1) small (place .place-of .ensures) (charged .charged .ensures)
-    (sub-back (balance-fits (pre .0) (start (tested right) .args .account) present (pre .1)) (within-pos (amount-high _ small)) (omega arith)) (c .before .before .too-little .ensures) (c .before .if3 .taken) (c .refused3 .ensures)
+    (sub-back (balance-fits (pre .0) (start (tested right) .args .account) present (pre .1)) (within-pos (amount-high _ small)) (omega arith))
+    (c .before .before .too-little .ensures) (c .before .if3 .taken) (c .refused3 .ensures)
 
 returns-4 : tie.Need-returns-4
 returns-4 c =
@@ -73,19 +71,18 @@ returns-4 c =
     let present = sym (tested right .is-absent .ensures) ∙ right .before .before .if1 .left in
     let small = sym (right .before .amount-refused .ensures) ∙ right .if2 .left in
     withdraw-accepted (pre .0) _ _ present (pre .1) small (place .place-of .ensures) (charged .charged .ensures)
-    (sub-back (balance-fits (pre .0) (start (tested right) .args .account) present (pre .1)) (within-pos (amount-high _ small)) (omega arith)) (c .before .before .too-little .ensures) (c .before .if3 .left) (c .paid .ensures)
+    (sub-back (balance-fits (pre .0) (start (tested right) .args .account) present (pre .1)) (within-pos (amount-high _ small)) (omega arith))
+    (c .before .before .too-little .ensures) (c .before .if3 .left) (c .paid .ensures)
 
 pub withdraw-spec : {M : Type 1} → statement M
-withdraw-spec =
-    tie.close
-    (tie.spec
+withdraw-spec = tie.close (tie.spec
     (λ c κs. search needs)
     (λ c κs. search needs)
     returns
     (λ c κs. search needs)
     (λ c κs. search needs)
     returns-2
-    place-of-requires
+    (λ c κs. place-below _ _ (sym (tested c .is-absent .ensures) ∙ c .before .before .if1 .left) .0)  -- place-of-requires
     cast-left
     sub-left
     charged-requires

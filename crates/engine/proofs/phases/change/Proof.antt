@@ -55,9 +55,7 @@ returns-5 c =
     (sym (matched known .is-match .ensures) ∙ known .before .before .if1 .left) (c .accepted .ensures)
 
 pub change-spec : {M : Type 1} → statement M
-change-spec =
-    tie.close
-    (tie.spec
+change-spec = tie.close (tie.spec
     (λ c κs. formed (c .before .before .before .pre) .contracts-high)  -- is-match-requires
     (λ c κs. search needs)
     returns

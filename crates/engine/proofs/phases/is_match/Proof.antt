@@ -10,41 +10,25 @@ use Rattle.engine.proofs.Tests.{place-below}
 use Rattle.engine.proofs.phases.is_match.Statement.{statement}
 use Rattle.engine.proofs.phases.is_match.Tie as tie
 
+-- back to the call of `is-absent`
+abbrev Is-absent : tie.After-contracts → tie.After-is-absent
+Is-absent c = c .before .before .before
+
 present : (c : tie.Else2) → isAbsent (c .before .before .before .args .contract) (c .before .before .before .args .state .contractcount) ≡ false
 present c = sym (c .before .is-absent .ensures) ∙ c .if2 .left
 
 place : (c : tie.After-place-of) → c .place-of .result < c .before .before .before .before .args .state .contractcount
 place c = rw (c .place-of .ensures) (place-below (c .before .before .before .before .args .contract) (c .before .before .before .before .args .state .contractcount) (present (c .before)) .1)
 
-returns : tie.Need-returns
-returns c = other-phase _ _ _ (c .if1 .taken)
-
-is-absent-requires : tie.Need-is-absent-requires
-is-absent-requires c κs = search needs
-
-returns-2 : tie.Need-returns-2
-returns-2 c = no-such-contract _ _ _ (c .before .before .if1 .left) (sym (c .before .is-absent .ensures) ∙ c .if2 .taken)
-
-place-of-requires : tie.Need-place-of-requires
-place-of-requires c κs = place-below _ _ (present c) .0
-
-mul-terms : tie.Need-mul-terms
-mul-terms c = search needs
-
-array-copy-out-terms : tie.Need-array-copy-out-terms
-array-copy-out-terms c = omega (arith, place (c .before), c .before .before .before .before .before .pre)
-
 returns-3 : tie.Need-returns-3
-returns-3 c = match-by-phase _ _ _ (c .before .before .before .before .before .before .if1 .left) (present (c .before .before .before .before)) (c .before .before .before .place-of .ensures)
+returns-3 c = match-by-phase _ _ _ (Is-absent (c .before .before) .before .if1 .left) (present (c .before .before .before .before)) (c .before .before .before .place-of .ensures)
 
 pub is-match-spec : {M : Type 1} → statement M
-is-match-spec =
-    tie.close
-    (tie.spec
-    returns
-    is-absent-requires
-    returns-2
-    place-of-requires
-    mul-terms
-    array-copy-out-terms
+is-match-spec = tie.close (tie.spec
+    (λ c. other-phase _ _ _ (c .if1 .taken))  -- returns
+    (λ c κs. search needs)  -- is-absent-requires
+    (λ c. no-such-contract _ _ _ (c .before .before .if1 .left) (sym (c .before .is-absent .ensures) ∙ c .if2 .taken))  -- returns-2
+    (λ c κs. place-below _ _ (present c) .0)  -- place-of-requires
+    (λ c. search needs)  -- mul-terms
+    (λ c. omega (arith, place (c .before), Is-absent c .before .before .pre))  -- array-copy-out-terms
     returns-3)

@@ -17,7 +17,8 @@ start c = c .before .before .before .before
 -- ---- what the tests have shown
 
 none : (c : tie.Else1) → let begun = start (c .before) in
-    firstOf (pullRefusals (exchangeOf (memory (begun .args .state) (now (begun .args .buys)) (now (begun .args .sells)) (now (begun .args .trades)))) (begun .args .account) (begun .args .contract) (begun .args .operator)) ≡ 0
+    firstOf (pullRefusals (exchangeOf (memory (begun .args .state) (now (begun .args .buys)) (now (begun .args .sells)) (now (begun .args .trades))))
+    (begun .args .account) (begun .args .contract) (begun .args .operator)) ≡ 0
 none c = sym (c .before .refusal .ensures (start (c .before) .pre .declared) _ _ _) ∙ c .if1 .left
 
 place : (c : tie.After-place-of) → c .place-of .result < maxContracts
@@ -38,8 +39,11 @@ cancel-in-requires : tie.Need-cancel-in-requires
 cancel-in-requires c κs =
     let stands = c .before in
     let named = stands .before .before in
-    let pre = start (named .before .before) .pre in
-    (bids-room pre _ _ _ (none (named .before)) (named .place-of .ensures) (stands .listed-at .ensures), bids-once pre _ _ _ (none (named .before)) (named .place-of .ensures) (stands .listed-at .ensures))
+    let pre = start (named .before .before) .pre in (
+      bids-room pre _ _ _ (none (named .before)) (named .place-of .ensures) (stands .listed-at .ensures),
+      bids-once pre _ _ _ (none (named .before))
+          (named .place-of .ensures) (stands .listed-at .ensures),
+    )
 
 returns-2 : tie.Need-returns-2
 returns-2 c =
@@ -56,7 +60,8 @@ returns-3 c =
     let bid = called .before .before .before in
     let stands = listed bid in
     let named = stands .before .before in
-    bid-another (start (named .before .before) .pre) _ _ _ (none (named .before)) (named .place-of .ensures) _ (stands .listed-at .ensures) (stands .before .place-word .ensures) (bid .cancel-in .ensures)
+    bid-another (start (named .before .before) .pre) _ _ _ (none (named .before)) (named .place-of .ensures) _ (stands .listed-at .ensures)
+    (stands .before .place-word .ensures) (bid .cancel-in .ensures)
     (c .before .if3 .taken) (c .refused2 .ensures)
 
 cancel-in-requires-2 : tie.Need-cancel-in-requires-2
@@ -65,8 +70,11 @@ cancel-in-requires-2 c κs =
     let bid = called .before .before .before in
     let stands = listed bid in
     let named = stands .before .before in
-    let pre = start (named .before .before) .pre in
-    (offers-room pre _ _ _ (none (named .before)) (named .place-of .ensures) (stands .listed-at .ensures), offers-once pre _ _ _ (none (named .before)) (named .place-of .ensures) (stands .listed-at .ensures))
+    let pre = start (named .before .before) .pre in (
+      offers-room pre _ _ _ (none (named .before)) (named .place-of .ensures) (stands .listed-at .ensures),
+      offers-once pre _ _ _
+          (none (named .before)) (named .place-of .ensures) (stands .listed-at .ensures),
+    )
 
 returns-4 : tie.Need-returns-4
 returns-4 c =
@@ -77,7 +85,8 @@ returns-4 c =
     let bid = not-done .before .before .before .before in
     let stands = listed bid in
     let named = stands .before .before in
-    offer-refused (start (named .before .before) .pre) _ _ _ (none (named .before)) (named .place-of .ensures) _ (stands .listed-at .ensures) (stands .before .place-word .ensures) (bid .cancel-in .ensures)
+    offer-refused (start (named .before .before) .pre) _ _ _ (none (named .before)) (named .place-of .ensures) _ (stands .listed-at .ensures)
+    (stands .before .place-word .ensures) (bid .cancel-in .ensures)
     (not-done .if2 .left) (not-another .if3 .left) (offer .cancel-in2 .ensures) (c .before .if4 .taken) (c .refused3 .ensures)
 
 returns-5 : tie.Need-returns-5
@@ -89,13 +98,12 @@ returns-5 c =
     let bid = not-done .before .before .before .before in
     let stands = listed bid in
     let named = stands .before .before in
-    offer-done (start (named .before .before) .pre) _ _ _ (none (named .before)) (named .place-of .ensures) _ (stands .listed-at .ensures) (stands .before .place-word .ensures) (bid .cancel-in .ensures)
+    offer-done (start (named .before .before) .pre) _ _ _ (none (named .before)) (named .place-of .ensures) _ (stands .listed-at .ensures)
+    (stands .before .place-word .ensures) (bid .cancel-in .ensures)
     (not-done .if2 .left) (not-another .if3 .left) (offer .cancel-in2 .ensures) (c .before .before .if4 .left) (c .before .with-orders2 .ensures) (c .accepted2 .ensures)
 
 pub cancel-spec : {M : Type 1} → statement M
-cancel-spec =
-    tie.close
-    (tie.spec
+cancel-spec = tie.close (tie.spec
     (λ c κs. let pre = c .before .before .before .pre in (formed pre .contracts-high, formed pre .accounts-high))  -- refusal-requires
     (λ c κs. search needs)
     returns

@@ -18,7 +18,8 @@ start c = c .before .before .before .before
 -- ---- what the tests have shown
 
 none : (c : tie.Else1) → let begun = start (c .before) in
-    firstOf (pullRefusals (exchangeOf (memory (begun .args .state) (now (begun .args .buys)) (now (begun .args .sells)) (now (begun .args .trades)))) (begun .args .account) (begun .args .contract) (begun .args .operator)) ≡ 0
+    firstOf (pullRefusals (exchangeOf (memory (begun .args .state) (now (begun .args .buys)) (now (begun .args .sells)) (now (begun .args .trades))))
+    (begun .args .account) (begun .args .contract) (begun .args .operator)) ≡ 0
 none c = sym (c .before .refusal .ensures (start (c .before) .pre .declared) _ _ _) ∙ c .if1 .left
 
 place : (c : tie.After-place-of) → c .place-of .result < maxContracts
@@ -35,16 +36,22 @@ pull-requires : tie.Need-pull-requires
 pull-requires c κs =
     let stands = c .before in
     let named = stands .before .before in
-    let pre = start (named .before .before) .pre in
-    (bids-few pre _ _ _ (none (named .before)) (named .place-of .ensures) (stands .listed-at .ensures), bids-room pre _ _ _ (none (named .before)) (named .place-of .ensures) (stands .listed-at .ensures))
+    let pre = start (named .before .before) .pre in (
+      bids-few pre _ _ _ (none (named .before)) (named .place-of .ensures) (stands .listed-at .ensures),
+      bids-room pre _ _ _ (none (named .before))
+          (named .place-of .ensures) (stands .listed-at .ensures),
+    )
 
 pull-requires-2 : tie.Need-pull-requires-2
 pull-requires-2 c κs =
     let bid = c .before .before .before in
     let stands = bid .before .before in
     let named = stands .before .before in
-    let pre = start (named .before .before) .pre in
-    (offers-few pre _ _ _ (none (named .before)) (named .place-of .ensures) (stands .listed-at .ensures), offers-room pre _ _ _ (none (named .before)) (named .place-of .ensures) (stands .listed-at .ensures))
+    let pre = start (named .before .before) .pre in (
+      offers-few pre _ _ _ (none (named .before)) (named .place-of .ensures) (stands .listed-at .ensures),
+      offers-room pre _ _ _ (none (named .before))
+          (named .place-of .ensures) (stands .listed-at .ensures),
+    )
 
 add-lots : tie.Need-add-lots
 add-lots c =
@@ -52,7 +59,11 @@ add-lots c =
     let bid = offer .before .before .before .before in
     let stands = bid .before .before in
     let named = stands .before .before in
-    omega (arith, pulled-few (start (named .before .before) .pre) _ _ _ (none (named .before)) (named .place-of .ensures) (stands .before .place-word .ensures) (stands .listed-at .ensures) (bid .pull .ensures) (offer .pull2 .ensures))
+    omega (
+      arith,
+      pulled-few (start (named .before .before) .pre) _ _ _ (none (named .before)) (named .place-of .ensures)
+          (stands .before .place-word .ensures) (stands .listed-at .ensures) (bid .pull .ensures) (offer .pull2 .ensures),
+    )
 
 cast-lots : tie.Need-cast-lots
 cast-lots c =
@@ -60,7 +71,11 @@ cast-lots c =
     let bid = offer .before .before .before .before in
     let stands = bid .before .before in
     let named = stands .before .before in
-    omega (arith, pulled-few (start (named .before .before) .pre) _ _ _ (none (named .before)) (named .place-of .ensures) (stands .before .place-word .ensures) (stands .listed-at .ensures) (bid .pull .ensures) (offer .pull2 .ensures))
+    omega (
+      arith,
+      pulled-few (start (named .before .before) .pre) _ _ _ (none (named .before)) (named .place-of .ensures)
+          (stands .before .place-word .ensures) (stands .listed-at .ensures) (bid .pull .ensures) (offer .pull2 .ensures),
+    )
 
 returns-2 : tie.Need-returns-2
 returns-2 c =
@@ -69,13 +84,12 @@ returns-2 c =
     let bid = offer .before .before .before .before in
     let stands = bid .before .before in
     let named = stands .before .before in
-    pull-accepted (start (named .before .before) .pre) _ _ _ (none (named .before)) (named .place-of .ensures) (stands .before .place-word .ensures) (stands .listed-at .ensures) (bid .pull .ensures) (offer .pull2 .ensures)
+    pull-accepted (start (named .before .before) .pre) _ _ _ (none (named .before)) (named .place-of .ensures) (stands .before .place-word .ensures)
+    (stands .listed-at .ensures) (bid .pull .ensures) (offer .pull2 .ensures)
     (c .before .with-orders .ensures) refl (c .accepted .ensures)
 
 pub pull-spec : {M : Type 1} → statement M
-pull-spec =
-    tie.close
-    (tie.spec
+pull-spec = tie.close (tie.spec
     (λ c κs. let pre = c .before .before .before .pre in (formed pre .contracts-high, formed pre .accounts-high))  -- refusal-requires
     (λ c κs. search needs)
     returns

@@ -14,6 +14,10 @@ use Rattle.engine.proofs.Tests.{place-below}
 use Rattle.engine.proofs.removal.refusal.Statement.{statement}
 use Rattle.engine.proofs.removal.refusal.Tie as tie
 
+-- back to the test `absent != 0`
+abbrev Past-absent : tie.After-is-refused → tie.Else1
+Past-absent c = c .before .before .before .before
+
 -- the test of 4
 abbrev refused : Bool → Contract → Bool
 refused operator terms = removalRefused terms operator
@@ -28,51 +32,36 @@ place : (c : tie.After-place-of) → c .place-of .result < c .before .before .be
 place c = rw (c .place-of .ensures) (place-below (c .before .before .before .args .contract) (c .before .before .before .args .state .contractcount) (contract (c .before)) .1)
 
 phase : (c : tie.After-is-refused)
-    → c .is-refused .result ≡ removalRefused (getD (c .before .before .before .before .before .before .args .state .contracts) (c .before .before .before .before .before .before .args .contract - 1) noContract) (c .before .before .before .before .before .before .args .operator)
+    → let there = c .before .before .before .before in
+    let a = there .before .before .args in
+    c .is-refused .result ≡ removalRefused (getD (a .state .contracts) (a .contract - 1) noContract) (a .operator)
 phase c = c .is-refused .ensures ∙ rw (c .before .before .before .place-of .ensures)
-
-absent-code-requires : tie.Need-absent-code-requires
-absent-code-requires c κs = c .pre .1
 
 returns : tie.Need-returns
 unfolding pullRefusals
 returns c = λ d buys sells trades. one-absent d (c .before .before .pre .1) buys sells trades _ _ _ (c .before .absent-code .ensures) (c .if1 .taken)
 
-place-of-requires : tie.Need-place-of-requires
-place-of-requires c κs = place-below _ _ (contract c) .0
-
-mul-terms : tie.Need-mul-terms
-mul-terms c = search needs
-
-array-copy-out-terms : tie.Need-array-copy-out-terms
-array-copy-out-terms c = omega (arith, place (c .before), c .before .before .before .before .pre .0)
-
-is-refused-requires : tie.Need-is-refused-requires
-is-refused-requires c κs = search needs
-
 returns-2 : tie.Need-returns-2
 unfolding pullRefusals
 returns-2 c = λ d buys sells trades.
-    let start = c .before .before .before .before .before .before .before in
-    let there = c .before .before .before .before .before in
+    let start = Past-absent (c .before) .before .before in
+    let there = Past-absent (c .before) in
     forbidden d (start .pre .1) buys sells trades (refused (start .args .operator)) _ _ [] (account there) (contract there) (sym (phase (c .before)) ∙ c .if2 .taken)
 
 returns-3 : tie.Need-returns-3
 unfolding pullRefusals firstOf
 returns-3 c = λ d buys sells trades.
-    let start = c .before .before .before .before .before .before .before in
-    let there = c .before .before .before .before .before in
+    let start = Past-absent (c .before) .before .before in
+    let there = Past-absent (c .before) in
     sym (allowed d (start .pre .1) buys sells trades (refused (start .args .operator)) _ _ [] (account there) (contract there) (sym (phase (c .before)) ∙ c .if2 .left))
 
 pub refusal-spec : {M : Type 1} → statement M
-refusal-spec =
-    tie.close
-    (tie.spec
-    absent-code-requires
+refusal-spec = tie.close (tie.spec
+    (λ c κs. c .pre .1)  -- absent-code-requires
     returns
-    place-of-requires
-    mul-terms
-    array-copy-out-terms
-    is-refused-requires
+    (λ c κs. place-below _ _ (contract c) .0)  -- place-of-requires
+    (λ c. search needs)  -- mul-terms
+    (λ c. omega (arith, place (c .before), c .before .before .before .before .pre .0))  -- array-copy-out-terms
+    (λ c κs. search needs)  -- is-refused-requires
     returns-2
     returns-3)

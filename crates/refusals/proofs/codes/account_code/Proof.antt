@@ -8,63 +8,51 @@ use Rattle.rules.specs.Memory.{exchangeOf, memory}
 use Rattle.refusals.proofs.codes.account_code.Statement.{statement}
 use Rattle.refusals.proofs.codes.account_code.Tie as tie
 
+-- back to the start
+abbrev Begun : tie.After-place-of → tie.Start
+Begun c = c .before .before .before .before
+
+-- back to the call of `place-of`
+abbrev Place-of : tie.After-mark → tie.After-place-of
+Place-of c = c .before .before .before .before .before .before .before
+
+-- back to the call whose answer is `own`
+abbrev Own : tie.After-lots-refused → tie.After-side-area
+Own c = c .before .before .before .before .before
+
 -- 8, as the rules test it
-lots : (c : tie.After-lots-refused) → let start = c .before .before .before .before .before .before .before .before .before .before .before .before .before in
+lots : (c : tie.After-lots-refused) → let start = Begun (Place-of (c .before .before)) in
     c .lots-refused .result ≡ holdingRefused (exchangeOf (memory (start .args .state) (now (start .args .buys)) (now (start .args .sells)) (now (start .args .trades)))) (start .args .o)
 lots c =
-    let start = c .before .before .before .before .before .before .before .before .before .before .before .before .before in
-    lots-are (start .pre .0) (start .args .o) (start .pre .1) (c .before .before .before .before .before .before .before .before .before .place-of .ensures) (c .before .before .before .before .before .side-area .ensures)
-    (c .before .before .before .before .side-count .ensures) (c .before .before .before .place-word .ensures) (c .before .before .mark .ensures) (c .before .resting .ensures) (start .pre .3) (c .lots-refused .ensures)
-
-place-of-requires : tie.Need-place-of-requires
-place-of-requires c κs = search needs
-
-mul-terms : tie.Need-mul-terms
-mul-terms c = search needs
-
-array-copy-out-terms : tie.Need-array-copy-out-terms
-array-copy-out-terms c =
-    let start = c .before .before .before .before .before in
-    place-fits (start .pre .0) (start .args .o) (start .pre .1) (c .before .place-of .ensures)
-
-mul-h : tie.Need-mul-h
-mul-h c = search needs
+    let start = Begun (Place-of (c .before .before)) in
+    lots-are (start .pre .0) (start .args .o) (start .pre .1) (Place-of (c .before .before) .place-of .ensures) (Own c .side-area .ensures)
+    (c .before .before .before .before .side-count .ensures) (c .before .before .before .place-word .ensures) (c .before .before .mark .ensures)
+    (c .before .resting .ensures) (start .pre .3) (c .lots-refused .ensures)
 
 element-copy-out-h : tie.Need-element-copy-out-h
 element-copy-out-h c =
-    let start = c .before .before .before .before .before .before in
+    let start = Begun (c .before .before) in
     place-fits (start .pre .0) (start .args .o) (start .pre .1) (c .before .before .place-of .ensures)
-
-side-area-requires : tie.Need-side-area-requires
-side-area-requires c κs = search needs
 
 side-count-requires : tie.Need-side-count-requires
 side-count-requires c κs =
-    let start = c .before .before .before .before .before .before .before .before in
+    let start = Begun (c .before .before .before .before) in
     place-fits (start .pre .0) (start .args .o) (start .pre .1) (c .before .before .before .before .place-of .ensures)
-
-place-word-requires : tie.Need-place-word-requires
-place-word-requires c κs = search needs
-
-mark-requires : tie.Need-mark-requires
-mark-requires c κs = search needs
 
 resting-requires : tie.Need-resting-requires
 resting-requires c κs =
-    let start = c .before .before .before .before .before .before .before .before .before .before .before in
-    own-room (start .pre .0) (start .args .o) (start .pre .1) (c .before .before .before .before .before .before .before .place-of .ensures) (c .before .before .before .side-area .ensures) (c .before .before .side-count .ensures)
+    let start = Begun (Place-of c) in
+    own-room (start .pre .0) (start .args .o) (start .pre .1) (Place-of c .place-of .ensures) (c .before .before .before .side-area .ensures) (c .before .before .side-count .ensures)
 
 lots-refused-requires : tie.Need-lots-refused-requires
 lots-refused-requires c κs =
-    let start = c .before .before .before .before .before .before .before .before .before .before .before .before in
-    rested-low (start .pre .0) (start .args .o) (start .pre .1) (c .before .before .before .before .before .before .before .before .place-of .ensures) (c .before .before .before .before .side-area .ensures) (c .before .before .before .side-count .ensures) (c .before .before .place-word .ensures) (c .before .mark .ensures) (c .resting .ensures)
+    let start = Begun (Place-of (c .before)) in
+    rested-low (start .pre .0) (start .args .o) (start .pre .1) (Place-of (c .before) .place-of .ensures) (c .before .before .before .before .side-area .ensures)
+    (c .before .before .before .side-count .ensures) (c .before .before .place-word .ensures) (c .before .mark .ensures) (c .resting .ensures)
 
 returns : tie.Need-returns
 unfolding firstOf
 returns c = rw (← lots (c .before), c .if1 .taken) refl
-
-money-refused-requires : tie.Need-money-refused-requires
-money-refused-requires c κs = search needs
 
 returns-2 : tie.Need-returns-2
 unfolding firstOf
@@ -75,21 +63,19 @@ unfolding firstOf
 returns-3 c = rw (← lots (c .before .before .before), c .before .before .if1 .left, ← c .before .money-refused .ensures, c .if2 .left) refl
 
 pub account-code-spec : {M : Type 1} → statement M
-account-code-spec =
-    tie.close
-    (tie.spec
-    place-of-requires
-    mul-terms
-    array-copy-out-terms
-    mul-h
+account-code-spec = tie.close (tie.spec
+    (λ c κs. search needs)  -- place-of-requires
+    (λ c. search needs)  -- mul-terms
+    (λ c. let start = Begun (c .before) in place-fits (start .pre .0) (start .args .o) (start .pre .1) (c .before .place-of .ensures))  -- array-copy-out-terms
+    (λ c. search needs)  -- mul-h
     element-copy-out-h
-    side-area-requires
+    (λ c κs. search needs)  -- side-area-requires
     side-count-requires
-    place-word-requires
-    mark-requires
+    (λ c κs. search needs)  -- place-word-requires
+    (λ c κs. search needs)  -- mark-requires
     resting-requires
     lots-refused-requires
     returns
-    money-refused-requires
+    (λ c κs. search needs)  -- money-refused-requires
     returns-2
     returns-3)

@@ -4,14 +4,8 @@ use Rattle.refusals.proofs.Arrivals.{facing-fillable}
 use Rattle.refusals.proofs.codes.is_short.Statement.{statement}
 use Rattle.refusals.proofs.codes.is_short.Tie as tie
 
-fillable-requires : tie.Need-fillable-requires
-fillable-requires c κs = (c .before .pre .queue .few, c .before .pre .queue .room)
-
-wide64-requires : tie.Need-wide64-requires
-wide64-requires c κs = search needs
-
-returns : tie.Need-returns
-returns c = rw (c .wide64 .ensures, c .before .fillable .ensures, facing-fillable (c .before .before .before .pre))
-
 pub is-short-spec : {M : Type 1} → statement M
-is-short-spec = tie.close (tie.spec fillable-requires wide64-requires returns)
+is-short-spec = tie.close (tie.spec
+    (λ c κs. (c .before .pre .queue .few, c .before .pre .queue .room))  -- fillable-requires
+    (λ c κs. search needs)  -- wide64-requires
+    (λ c. rw (c .wide64 .ensures, c .before .fillable .ensures, facing-fillable (c .before .before .before .pre))))  -- returns

@@ -4,17 +4,8 @@ use Rattle.rules.specs.Answers.{priceRefusedBy}
 use Rattle.refusals.proofs.codes.price_refused.Statement.{statement}
 use Rattle.refusals.proofs.codes.price_refused.Tie as tie
 
-enum-known-condition : tie.Need-enum-known-condition
-enum-known-condition c = search needs
-
-allowed-today-requires : tie.Need-allowed-today-requires
-allowed-today-requires c κs = search needs
-
 enum-told : tie.Need-enum-told
 enum-told c = search needs
-
-enum-told-2 : tie.Need-enum-told-2
-enum-told-2 c = search needs
 
 returns : tie.Need-returns
 unfolding priceRefusedBy
@@ -29,13 +20,11 @@ unfolding priceRefusedBy
 returns-3 c = rw (c .enum-told2 .given .1)
 
 pub price-refused-spec : {M : Type 1} → statement M
-price-refused-spec =
-    tie.close
-    (tie.spec
-    enum-known-condition
-    allowed-today-requires
+price-refused-spec = tie.close (tie.spec
+    (λ c. search needs)  -- enum-known-condition
+    (λ c κs. search needs)  -- allowed-today-requires
     enum-told
-    enum-told-2
+    (λ c. search needs)  -- enum-told-2
     returns
     returns-2
     returns-3)

@@ -3,11 +3,7 @@ use Rattle.refusals.proofs.Conditions.{in-continuous, by-auction}
 use Rattle.refusals.proofs.codes.takes_orders.Statement.{statement}
 use Rattle.refusals.proofs.codes.takes_orders.Tie as tie
 
-returns : tie.Need-returns
-returns c = in-continuous _ (c .if1 .taken)
-
-returns-2 : tie.Need-returns-2
-returns-2 c = by-auction _ (c .before .if1 .left)
-
 pub takes-orders-spec : {M : Type 1} → statement M
-takes-orders-spec = tie.close (tie.spec returns returns-2)
+takes-orders-spec = tie.close (tie.spec
+    (λ c. in-continuous _ (c .if1 .taken))  -- returns
+    (λ c. by-auction _ (c .before .if1 .left)))  -- returns-2

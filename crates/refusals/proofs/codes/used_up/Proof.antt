@@ -3,11 +3,7 @@ use borrow.Author.Tests.{le-leb, lt-leb}
 use Rattle.refusals.proofs.codes.used_up.Statement.{statement}
 use Rattle.refusals.proofs.codes.used_up.Tie as tie
 
-returns : tie.Need-returns
-returns c = rw (le-leb _ _ (c .if1 .taken))
-
-returns-2 : tie.Need-returns-2
-returns-2 c = rw (lt-leb _ _ (c .if1 .left))
-
 pub used-up-spec : {M : Type 1} → statement M
-used-up-spec = tie.close (tie.spec returns returns-2)
+used-up-spec = tie.close (tie.spec
+    (λ c. rw (le-leb _ _ (c .if1 .taken)))  -- returns
+    (λ c. rw (lt-leb _ _ (c .if1 .left))))  -- returns-2

@@ -12,45 +12,16 @@ Inv-loop all base area₀ k₀ area k = (length area ≡ length area₀) × (k �
 abbrev μ-loop : tie.MeasureT-loop
 μ-loop all base area₀ k₀ area k = length area - k
 
-loop-holds : tie.Need-loop-holds Inv-loop μ-loop
-loop-holds c = search needs
-
-sum-requires : tie.Need-sum-requires Inv-loop μ-loop
-sum-requires c κs = search needs
-
-word-at-requires : tie.Need-word-at-requires Inv-loop μ-loop
-word-at-requires c κs = search needs
-
-put-word-requires : tie.Need-put-word-requires Inv-loop μ-loop
-put-word-requires c κs = search needs
-
-add-k : tie.Need-add-k Inv-loop μ-loop
-add-k c = search needs
-
-loop-less : tie.Need-loop-less Inv-loop μ-loop
-loop-less c = search needs
-
-loop-again : tie.Need-loop-again Inv-loop μ-loop
-loop-again c = search needs
-
-same-length : tie.Need-same-length Inv-loop μ-loop
-same-length c = search needs
-
-returns : tie.Need-returns Inv-loop μ-loop
-returns c = search needs
-
 pub copy-out-spec : {M : Type 1} → statement M
-copy-out-spec =
-    tie.close
-    (tie.spec
+copy-out-spec = tie.close (tie.spec
     Inv-loop
     μ-loop
-    loop-holds
-    sum-requires
-    word-at-requires
-    put-word-requires
-    add-k
-    loop-less
-    loop-again
-    same-length
-    returns)
+    (λ c. search needs)  -- loop-holds
+    (λ c κs. search needs)  -- sum-requires
+    (λ c κs. search needs)  -- word-at-requires
+    (λ c κs. search needs)  -- put-word-requires
+    (λ c. search needs)  -- add-k
+    (λ c. search needs)  -- loop-less
+    (λ c. search needs)  -- loop-again
+    (λ c. search needs)  -- same-length
+    (λ c. search needs))  -- returns

@@ -12,41 +12,15 @@ Inv-loop file at count values₀ next₀ k₀ values next k = (length values ≡
 abbrev μ-loop : tie.MeasureT-loop
 μ-loop file at count values₀ next₀ k₀ values next k = count - k
 
-loop-holds : tie.Need-loop-holds Inv-loop μ-loop
-loop-holds c = search needs
-
-number-requires : tie.Need-number-requires Inv-loop μ-loop
-number-requires c κs = search needs
-
-mul-values : tie.Need-mul-values Inv-loop μ-loop
-mul-values c = search needs
-
-array-write-values : tie.Need-array-write-values Inv-loop μ-loop
-array-write-values c = search needs
-
-add-k : tie.Need-add-k Inv-loop μ-loop
-add-k c = search needs
-
-loop-less : tie.Need-loop-less Inv-loop μ-loop
-loop-less c = search needs
-
-loop-again : tie.Need-loop-again Inv-loop μ-loop
-loop-again c = search needs
-
-returns : tie.Need-returns Inv-loop μ-loop
-returns c = search needs
-
 pub numbers-spec : {M : Type 1} → statement M
-numbers-spec =
-    tie.close
-    (tie.spec
+numbers-spec = tie.close (tie.spec
     Inv-loop
     μ-loop
-    loop-holds
-    number-requires
-    mul-values
-    array-write-values
-    add-k
-    loop-less
-    loop-again
-    returns)
+    (λ c. search needs)  -- loop-holds
+    (λ c κs. search needs)  -- number-requires
+    (λ c. search needs)  -- mul-values
+    (λ c. search needs)  -- array-write-values
+    (λ c. search needs)  -- add-k
+    (λ c. search needs)  -- loop-less
+    (λ c. search needs)  -- loop-again
+    (λ c. search needs))  -- returns

@@ -12,49 +12,17 @@ Inv-loop file at count area₀ start end from₀ to₀ area from to = length are
 abbrev μ-loop : tie.MeasureT-loop
 μ-loop file at count area₀ start end from₀ to₀ area from to = end - to
 
-loop-holds : tie.Need-loop-holds Inv-loop μ-loop
-loop-holds c = search needs
-
-sum-requires : tie.Need-sum-requires Inv-loop μ-loop
-sum-requires c κs = search needs
-
-byte-at-requires : tie.Need-byte-at-requires Inv-loop μ-loop
-byte-at-requires c κs = search needs
-
-put-byte-requires : tie.Need-put-byte-requires Inv-loop μ-loop
-put-byte-requires c κs = search needs
-
-sum-requires-2 : tie.Need-sum-requires-2 Inv-loop μ-loop
-sum-requires-2 c κs = search needs
-
-add-to : tie.Need-add-to Inv-loop μ-loop
-add-to c = search needs
-
-loop-less : tie.Need-loop-less Inv-loop μ-loop
-loop-less c = search needs
-
-loop-again : tie.Need-loop-again Inv-loop μ-loop
-loop-again c = search needs
-
-same-length : tie.Need-same-length Inv-loop μ-loop
-same-length c = search needs
-
-returns : tie.Need-returns Inv-loop μ-loop
-returns c = search needs
-
 pub put-part-spec : {M : Type 1} → statement M
-put-part-spec =
-    tie.close
-    (tie.spec
+put-part-spec = tie.close (tie.spec
     Inv-loop
     μ-loop
-    loop-holds
-    sum-requires
-    byte-at-requires
-    put-byte-requires
-    sum-requires-2
-    add-to
-    loop-less
-    loop-again
-    same-length
-    returns)
+    (λ c. search needs)  -- loop-holds
+    (λ c κs. search needs)  -- sum-requires
+    (λ c κs. search needs)  -- byte-at-requires
+    (λ c κs. search needs)  -- put-byte-requires
+    (λ c κs. search needs)  -- sum-requires-2
+    (λ c. search needs)  -- add-to
+    (λ c. search needs)  -- loop-less
+    (λ c. search needs)  -- loop-again
+    (λ c. search needs)  -- same-length
+    (λ c. search needs))  -- returns

@@ -11,14 +11,9 @@ mul-result c =
     let h : c .before .before .args .a * c .before .before .args .b ≤ 1000000 * 1000000 = mul-le-mul {n₂ = 1000000} {m₂ = 1000000} (omega arith) (omega arith) in
     record { fits = omega arith }
 
-returns : tie.Need-returns
-returns c = search needs
-
-returns-2 : tie.Need-returns-2
-returns-2 c = search needs
-
-returns-3 : tie.Need-returns-3
-returns-3 c = search needs
-
 pub times-spec : {M : Type 1} → statement M
-times-spec = tie.close (tie.spec mul-result returns returns-2 returns-3)
+times-spec = tie.close (tie.spec
+    mul-result
+    (λ c. search needs)  -- returns
+    (λ c. search needs)  -- returns-2
+    (λ c. search needs))  -- returns-3
