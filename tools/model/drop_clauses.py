@@ -240,6 +240,11 @@ def below(name, found):
     return reached
 
 
+def listing(names, found):
+    """The lines of crates.txt of these crates, to the letter: a stamp of what is proved holds for its line as well."""
+    return "".join(" ".join([n + ":", *found[n]]) + "\n" for n in names)
+
+
 FUNCTION = re.compile(r"(?m)^[ \t]*(?:pub(?:\([a-z]+\))? )?(?:extern \"C\" )?fn ")
 
 
@@ -284,7 +289,7 @@ def made_ready(name, folder):
     shutil.copytree(TOP / "crates" / name / "src", crate / "src")
     for f in crate.glob("src/*.rt"):
         f.write_text(without_functions(f.read_text()))
-    (folder / "crates.txt").write_text("".join(f"{n}: {' '.join(found[n])}\n" for n in needed))
+    (folder / "crates.txt").write_text(listing(needed, found))
     return crate
 
 
@@ -318,12 +323,11 @@ def main():
 
 def verdict_of(e, refused):
     """What the places tell at which the prover refuses a crate with this edit."""
-    cases = [f for f in refused if WORKED_CASES.fullmatch(f)]
+    if refused:
+        return "noticed" if all(WORKED_CASES.fullmatch(f) for f in refused) else "no definition"
     if any(words in str(e) for words, _ in NO_DIFFERENCE):
         return "no difference"
-    if not refused:
-        return "noticed above" if any(words in str(e) for words, _ in ABOVE) else "unnoticed"
-    return "noticed" if len(cases) == len(refused) else "no definition"
+    return "noticed above" if any(words in str(e) for words, _ in ABOVE) else "unnoticed"
 
 
 def told(what, verdicts):

@@ -95,6 +95,20 @@ class Sources(unittest.TestCase):
         self.assertIn("pub const MOST", left)
         self.assertEqual(left.count("{"), left.count("}"))
 
+    def test_a_refusal_decides_before_any_list(self):
+        listed = drop_clauses.NO_DIFFERENCE[0][0]
+        self.assertEqual(drop_clauses.verdict_of(listed, []), "no difference")
+        self.assertEqual(drop_clauses.verdict_of(listed, ["CodeExamples.antt"]), "noticed")
+        self.assertEqual(drop_clauses.verdict_of(drop_clauses.ABOVE[0][0], []), "noticed above")
+        self.assertEqual(drop_clauses.verdict_of("another", []), "unnoticed")
+        self.assertEqual(drop_clauses.verdict_of("another", ["CodeExamples.antt", "Answers.antt"]), "no definition")
+
+    def test_crates_are_listed_to_the_letter(self):
+        lines = (drop_clauses.TOP / "crates.txt").read_text().splitlines()
+        found = drop_clauses.listed()
+        for line in drop_clauses.listing(found, found).splitlines():
+            self.assertIn(line, lines)
+
     def test_every_crate_has_edits_and_its_sources_lose_their_functions(self):
         for name in drop_clauses.CRATES:
             crate = drop_clauses.TOP / "crates" / name

@@ -44,6 +44,11 @@ pub head-example : (mendCode [] 64 26 ≡ 20) × (mendCode [] 0 0 ≡ 20)
 unfolding all allOf u8At u16At u32At u64At contractsIn contractPlace accountsIn accountPlace commandPlace contractFrom contractSound balanceFrom accountSound onTick tickMultiple termsInRange firstOf headWhole headSound mendCode
 head-example = (refl, refl)
 
+-- of its first record none is kept, of its first two one
+pub kept-example : (kept broken 40 1 ≡ 0) × (kept broken 40 2 ≡ 1)
+unfolding front broken allOf zeros bits commandOf settleOf u8At u16At u32At u64At recordFrom reason kept
+kept-example = (refl, refl)
+
 -- the settlement is kept behind 1,999 kept ones and is surplus behind 2,000; the record of kind 255 is malformed all the same
 pub surplus-example : (reason broken 40 1 1_999 ≡ 0) × (reason broken 40 1 2_000 ≡ 3) × (reason broken 40 0 2_000 ≡ 1)
 unfolding front broken allOf zeros bits commandOf settleOf u8At u16At u32At u64At recordFrom reason
