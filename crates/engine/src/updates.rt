@@ -3,7 +3,7 @@
 ghost use mathlib.Core.Path.{_≡_};
 ghost use Prim.Native.Nat.{_<_};
 ghost use Rattle.rules.specs.Bounds.{maxContracts};
-ghost use Rattle.engine.specs.Decision.{acceptedBy, leftFor, listedIn, refusedBy};
+ghost use Rattle.engine.specs.Decision.{acceptedBy, leftFor, listedIn, refusedBy, withListed};
 use rules::Account;
 use rules::Answer;
 use rules::Contract;
@@ -135,4 +135,21 @@ pub fn listed_at(state: State, c: usize) -> Listed
         next: state.next,
         nextstamp: state.nextstamp,
     }
+}
+
+// The state with a contract as it stands by now.
+pub fn with_listed(state: State, l: Listed) -> State
+    requires { ⌜ l .place < maxContracts ⌝ }
+    ensures { λ r. ⌜ r ≡ withListed state l ⌝ }
+{
+    let mut next = state;
+    let c = l.place;
+    let terms = l.terms;
+    next.contracts[c] = terms;
+    next.buycounts[c] = l.bought;
+    next.sellcounts[c] = l.sold;
+    next.tradecount = l.recorded;
+    next.next = l.next;
+    next.nextstamp = l.nextstamp;
+    next
 }

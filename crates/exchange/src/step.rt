@@ -18,6 +18,7 @@ use engine::updates::Decision;
 use engine::updates::Pending;
 use engine::updates::Remaining;
 use engine::updates::Update;
+use quoting::Quoted;
 use rules::Account;
 use rules::Command;
 use rules::State;
@@ -73,13 +74,20 @@ pub fn decide(
             lots,
             buy,
             sell,
-        } => updates::left(Update::Whole(Remaining::Quoting {
-            account,
-            contract,
-            lots,
-            buy,
-            sell,
-        })),
+        } => quoting::quote(
+            state,
+            who,
+            buys,
+            sells,
+            trades,
+            Quoted {
+                account,
+                contract,
+                lots,
+                buy,
+                sell,
+            },
+        ),
         Command::Change {
             account,
             contract,
@@ -143,7 +151,7 @@ pub fn carry_whole(
             lots,
             buy,
             sell,
-        } => settling::plain(quoting::quote(
+        } => settling::plain(quoting::trade(
             state,
             buys,
             sells,

@@ -241,7 +241,7 @@ module _ {a : Arrival} {buys sells : List ℕ} {d : Decision} {buys′ sells′ 
 
   -- nothing else is left of an order but that it trades
   module _ (other : OneOf (0 ∷ 1 ∷ 3 ∷ 4 ∷ []) (tagOf the-type (d .update))) where
-    untouched-then : (inAuction (a .listed .terms) ≡ false) × (buys′ ≡ buys) × (sells′ ≡ sells)
+    pub untouched-then : (inAuction (a .listed .terms) ≡ false) × (buys′ ≡ buys) × (sells′ ≡ sells)
     untouched-then = by-update (d .answer) (d .update) other (k .told)
       where
         by-update : (answer : Answer) (u : Update) → OneOf (0 ∷ 1 ∷ 3 ∷ 4 ∷ []) (tagOf the-type u) → DecidedAs a buys sells answer u buys′ sells′ → (inAuction (a .listed .terms) ≡ false) × (buys′ ≡ buys) × (sells′ ≡ sells)

@@ -2,3 +2,4 @@
 pub mod Undo
 pub mod Marking
 pub mod Placing
+pub mod Resting

@@ -8,6 +8,7 @@ use native.Mathlib.Omega.{arith}
 use borrow.Author.Tests.{eqb-true, eq-eqb, le-ltb, lt-ltb, ne-eqb, not-false}
 use lib.Dec.{eqb, ltb}
 use lib.ListN.{length, getD, set, length-append}
+use lib.Seq.{set-set}
 use Rattle.laws.specs.Choice.{pick}
 use Rattle.areas.specs.Records.{store}
 use Rattle.rules.specs.Answers.{Refusal, dayLimitOrder, firstOf, isGoodForDay, listingOf, namedRefusals, notContinuous, orderRefusals, pullRefusals, takerOf, tradesNeeded, tradesAgainst}
@@ -51,7 +52,7 @@ use Rattle.refusals.proofs.Arrivals.{count-within}
 use Rattle.refusals.proofs.Continuous as first
 use Rattle.engine.proofs.Named.{account-there}
 use Rattle.insertion.specs.Entry.{enteredIn}
-use Rattle.quoting.specs.Placing.{Quotable, PlacedIs, Undoable, earlyRefusals, goneIn, madeFrom, markedIn}
+use Rattle.quoting.specs.Placing.{GoneIs, Quotable, PlacedIs, Undoable, earlyRefusals, goneIn, madeFrom, markedIn}
 use Rattle.quoting.proofs.Marking.{entered-so, nothing-moved, told}
 use Rattle.quoting.proofs.Undo.{made-room, undo-both, undo-nothing, undo-queue, undo-trades}
 
@@ -87,8 +88,13 @@ module _ {s : State} {buys sells trades : List ℕ} (w : WellFormedState s buys 
   own-sells = rw mine at from-sells
 
   pub gone-written : {r : State} → r ≡ withCountsIn s (set (s .buycounts) place bought) (set (s .sellcounts) place sold)
-      → memory r buys′ sells′ trades ≡ goneIn (memory s buys sells trades) account contract
-  gone-written e = rw e (sym (lies w account contract false none is (isQuoteOf (placeOf account)) own-buys own-sells))
+      → GoneIs s buys sells trades account contract r buys′ sells′
+  gone-written e =
+      record {
+        lies = rw e (sym (lies w account contract false none is (isQuoteOf (placeOf account)) own-buys own-sells));
+        accounts = rw e refl;
+        rest = λ l at. rw (e, is, at, set-set (s .buycounts) (placeOf contract) bought (l .bought), set-set (s .sellcounts) (placeOf contract) sold (l .sold)) refl;
+      }
 
 -- ---- 2, 3 and 4, then 23 and 24, as the code tries them
 
@@ -267,10 +273,10 @@ module _ {s : State} {buys sells trades : List ℕ} (w : WellFormedState s buys 
       unfolding put putState
       gone-counts = (ap (λ (n : Memory). n .state .accountcount) gone-is, ap (λ (n : Memory). n .state .contractcount) gone-is)
 
-      undo-buys₁ : Undoable (queueStride * c) queueStride buys buys₁
+      pub undo-buys₁ : Undoable (queueStride * c) queueStride buys buys₁
       undo-buys₁ = rw (ap (λ (n : Memory). n .buys) gone-is ∙ ap (λ (n : Memory). n .buys) gone-lies) (undo-queue buys c _ (left false) (side-few false) (left-few false) room-buys)
 
-      undo-sells₁ : Undoable (queueStride * c) queueStride sells sells₁
+      pub undo-sells₁ : Undoable (queueStride * c) queueStride sells sells₁
       undo-sells₁ = rw (ap (λ (n : Memory). n .sells) gone-is ∙ ap (λ (n : Memory). n .sells) gone-lies) (undo-queue sells c _ (left true) (side-few true) (left-few true) room-sells)
 
       -- ---- the buy
@@ -418,10 +424,10 @@ module _ {s : State} {buys sells trades : List ℕ} (w : WellFormedState s buys 
             made-fit : s .tradecount + length made ≤ maxTrades
             made-fit = omega (arith, counted₁ .trades, length-append (exchangeOf m₁ .trades) made, trades-count m₁ f₁, trades-same)
 
-            undo-buys₂ : Undoable (queueStride * c) queueStride buys buys₂
+            pub undo-buys₂ : Undoable (queueStride * c) queueStride buys buys₂
             undo-buys₂ = undo-both (queueStride * c) queueStride room-buys undo-buys₁ (rw (written₁ .0) (undo-queue buys₁ c _ (listing₁ .buys) (f₁ .buys-high c here₁) (few₁ false) (rw (undo-buys₁ .long) room-buys)))
 
-            undo-sells₂ : Undoable (queueStride * c) queueStride sells sells₂
+            pub undo-sells₂ : Undoable (queueStride * c) queueStride sells sells₂
             undo-sells₂ = undo-both (queueStride * c) queueStride room-sells undo-sells₁ (rw (written₁ .1) (undo-queue sells₁ c _ (listing₁ .sells) (f₁ .sells-high c here₁) (few₁ true) (rw (undo-sells₁ .long) room-sells)))
 
             undo-trades₂ : Undoable (madeFrom (s .tradecount)) (tradeStride * maxResting) trades trades₂

@@ -17,7 +17,7 @@ enter-marked-requires : tie.Need-enter-marked-requires
 enter-marked-requires c κs =
     let after = c .before .before .before .before .before .before .before .before in
     let start = after .before .before .before .before .before .before .before in
-    (gone-formed (start .pre .0) (start .args .account) (start .args .contract) (start .args .lots) (start .args .buy) (start .args .sell) (start .pre .1) (after .remove-quote .ensures), buy-quotable (start .pre .0) (start .args .account) (start .args .contract) (start .args .lots) (start .args .buy) (start .args .sell) (start .pre .1) (after .remove-quote .ensures) (c .before .before .before .day-limit .ensures))
+    (gone-formed (start .pre .0) (start .args .account) (start .args .contract) (start .args .lots) (start .args .buy) (start .args .sell) (start .pre .1) (after .remove-quote .ensures .lies), buy-quotable (start .pre .0) (start .args .account) (start .args .contract) (start .args .lots) (start .args .buy) (start .args .sell) (start .pre .1) (after .remove-quote .ensures .lies) (c .before .before .before .day-limit .ensures))
 
 refused-requires : tie.Need-refused-requires
 refused-requires c κs = search needs
@@ -35,7 +35,7 @@ returns : tie.Need-returns
 returns c =
     let after = c .before .before .before .before .before .before .before .before .before .before in
     let start = after .before .before .before .before .before .before .before .before .before .before .before .before .before .before .before .before in
-    buy-refused (start .pre .0) (start .args .account) (start .args .contract) (start .args .lots) (start .args .buy) (start .args .sell) (start .pre .1) (after .before .before .before .before .before .before .before .before .before .remove-quote .ensures) (after .before .before .before .before .day-limit .ensures) (after .enter-marked .ensures) (c .before .if1 .taken) (c .refused .ensures)
+    buy-refused (start .pre .0) (start .args .account) (start .args .contract) (start .args .lots) (start .args .buy) (start .args .sell) (start .pre .1) (after .before .before .before .before .before .before .before .before .before .remove-quote .ensures .lies) (after .before .before .before .before .day-limit .ensures) (after .enter-marked .ensures) (c .before .if1 .taken) (c .refused .ensures)
 
 day-limit-requires-2 : tie.Need-day-limit-requires-2
 day-limit-requires-2 c κs = search needs
@@ -44,7 +44,7 @@ enter-marked-requires-2 : tie.Need-enter-marked-requires-2
 enter-marked-requires-2 c κs =
     let after = c .before .before .before .before .before .before .before .before .before .before .before .before .before .before in
     let start = after .before .before .before .before .before .before .before .before .before .before .before .before .before .before .before .before in
-    (bought-formed (start .pre .0) (start .args .account) (start .args .contract) (start .args .lots) (start .args .buy) (start .args .sell) (start .pre .1) (after .before .before .before .before .before .before .before .before .before .remove-quote .ensures) (after .before .before .before .before .day-limit .ensures) (after .enter-marked .ensures) (c .before .before .before .before .before .if1 .left), sell-quotable (start .pre .0) (start .args .account) (start .args .contract) (start .args .lots) (start .args .buy) (start .args .sell) (start .pre .1) (after .before .before .before .before .before .before .before .before .before .remove-quote .ensures) (after .before .before .before .before .day-limit .ensures) (after .enter-marked .ensures) (c .before .before .before .before .before .if1 .left) (c .before .before .before .day-limit2 .ensures))
+    (bought-formed (start .pre .0) (start .args .account) (start .args .contract) (start .args .lots) (start .args .buy) (start .args .sell) (start .pre .1) (after .before .before .before .before .before .before .before .before .before .remove-quote .ensures .lies) (after .before .before .before .before .day-limit .ensures) (after .enter-marked .ensures) (c .before .before .before .before .before .if1 .left), sell-quotable (start .pre .0) (start .args .account) (start .args .contract) (start .args .lots) (start .args .buy) (start .args .sell) (start .pre .1) (after .before .before .before .before .before .before .before .before .before .remove-quote .ensures .lies) (after .before .before .before .before .day-limit .ensures) (after .enter-marked .ensures) (c .before .before .before .before .before .if1 .left) (c .before .before .before .day-limit2 .ensures))
 
 refused-requires-2 : tie.Need-refused-requires-2
 refused-requires-2 c κs = search needs
@@ -66,19 +66,19 @@ returns-2 : tie.Need-returns-2
 returns-2 c =
     let after = c .before .before .before .before .before .before .before .before .before .before .before .before .before .before .before .before .before .before .before .before .before .before .before .before .before in
     let start = after .before .before .before .before .before .before .before .before .before .before .before .before .before .before .before .before in
-    sell-refused (start .pre .0) (start .args .account) (start .args .contract) (start .args .lots) (start .args .buy) (start .args .sell) (start .pre .1) (after .before .before .before .before .before .before .before .before .before .remove-quote .ensures) (after .before .before .before .before .day-limit .ensures) (after .enter-marked .ensures) (c .before .before .before .before .before .before .before .before .before .before .before .before .before .before .before .before .if1 .left) (c .before .before .before .before .before .before .before .before .before .before .before .before .before .before .day-limit2 .ensures) (c .before .before .before .before .before .before .before .before .before .before .enter-marked2 .ensures) (c .before .if2 .taken) (c .refused2 .ensures)
+    sell-refused (start .pre .0) (start .args .account) (start .args .contract) (start .args .lots) (start .args .buy) (start .args .sell) (start .pre .1) (after .before .before .before .before .before .before .before .before .before .remove-quote .ensures .lies) (after .before .before .before .before .day-limit .ensures) (after .enter-marked .ensures) (c .before .before .before .before .before .before .before .before .before .before .before .before .before .before .before .before .if1 .left) (c .before .before .before .before .before .before .before .before .before .before .before .before .before .before .day-limit2 .ensures) (c .before .before .before .before .before .before .before .before .before .before .enter-marked2 .ensures) (c .before .if2 .taken) (c .refused2 .ensures)
 
 add-accepted : tie.Need-add-accepted
 add-accepted c =
     let after = c .before .before .before .before .before .before .before .before .before .before .before .before .before .before .before .before .before .before .before .before .before .before .before .before .before .before .before in
     let start = after .before .before .before .before .before .before .before .before .before .before .before .before .before .before .before .before in
-    omega (arith, sums-fit (start .pre .0) (start .args .account) (start .args .contract) (start .args .lots) (start .args .buy) (start .args .sell) (start .pre .1) (after .before .before .before .before .before .before .before .before .before .remove-quote .ensures) (after .before .before .before .before .day-limit .ensures) (after .enter-marked .ensures) (c .before .before .before .before .before .before .before .before .before .before .before .before .before .before .before .before .before .before .if1 .left) (c .before .before .before .before .before .before .before .before .before .before .before .before .before .before .before .before .day-limit2 .ensures) (c .before .before .before .before .before .before .before .before .before .before .before .before .enter-marked2 .ensures) (c .before .before .before .if2 .left) .0)
+    omega (arith, sums-fit (start .pre .0) (start .args .account) (start .args .contract) (start .args .lots) (start .args .buy) (start .args .sell) (start .pre .1) (after .before .before .before .before .before .before .before .before .before .remove-quote .ensures .lies) (after .before .before .before .before .day-limit .ensures) (after .enter-marked .ensures) (c .before .before .before .before .before .before .before .before .before .before .before .before .before .before .before .before .before .before .if1 .left) (c .before .before .before .before .before .before .before .before .before .before .before .before .before .before .before .before .day-limit2 .ensures) (c .before .before .before .before .before .before .before .before .before .before .before .before .enter-marked2 .ensures) (c .before .before .before .if2 .left) .0)
 
 add-accepted-2 : tie.Need-add-accepted-2
 add-accepted-2 c =
     let after = c .before .before .before .before .before .before .before .before .before .before .before .before .before .before .before .before .before .before in
     let start = after .before .before .before .before .before .before .before .before .before .before .before .before .before .before .before .before .before .before .before .before .before .before .before .before .before .before .before in
-    omega (arith, sums-fit (start .pre .0) (start .args .account) (start .args .contract) (start .args .lots) (start .args .buy) (start .args .sell) (start .pre .1) (after .before .before .before .before .before .before .before .before .before .before .before .before .before .before .before .before .before .before .before .before .remove-quote .ensures) (after .before .before .before .before .before .before .before .before .before .before .before .before .before .before .before .day-limit .ensures) (after .before .before .before .before .before .before .before .before .before .before .before .enter-marked .ensures) (after .before .before .if1 .left) (after .day-limit2 .ensures) (c .before .before .before .before .before .before .before .before .before .before .before .before .before .before .enter-marked2 .ensures) (c .before .before .before .before .before .if2 .left) .1)
+    omega (arith, sums-fit (start .pre .0) (start .args .account) (start .args .contract) (start .args .lots) (start .args .buy) (start .args .sell) (start .pre .1) (after .before .before .before .before .before .before .before .before .before .before .before .before .before .before .before .before .before .before .before .before .remove-quote .ensures .lies) (after .before .before .before .before .before .before .before .before .before .before .before .before .before .before .before .day-limit .ensures) (after .before .before .before .before .before .before .before .before .before .before .before .enter-marked .ensures) (after .before .before .if1 .left) (after .day-limit2 .ensures) (c .before .before .before .before .before .before .before .before .before .before .before .before .before .before .enter-marked2 .ensures) (c .before .before .before .before .before .if2 .left) .1)
 
 accepted-requires : tie.Need-accepted-requires
 accepted-requires c κs = search needs
@@ -100,7 +100,7 @@ returns-3 : tie.Need-returns-3
 returns-3 c =
     let after = c .before .before .before .before .before .before .before .before .before .before .before .before .before .before .before .before .before .before .before in
     let start = after .before .before .before .before .before .before .before .before .before .before .before .before .before .before .before .before .before .before .before .before .before .before .before .before .before .before .before in
-    quote-accepted (start .pre .0) (start .args .account) (start .args .contract) (start .args .lots) (start .args .buy) (start .args .sell) (start .pre .1) (after .before .before .before .before .before .before .before .before .before .before .before .before .before .before .before .before .before .before .before .before .remove-quote .ensures) (after .before .before .before .before .before .before .before .before .before .before .before .before .before .before .before .day-limit .ensures) (after .before .before .before .before .before .before .before .before .before .before .before .enter-marked .ensures) (after .before .before .if1 .left) (after .day-limit2 .ensures) (c .before .before .before .before .before .before .before .before .before .before .before .before .before .before .before .enter-marked2 .ensures) (c .before .before .before .before .before .before .if2 .left) (c .accepted .ensures)
+    quote-accepted (start .pre .0) (start .args .account) (start .args .contract) (start .args .lots) (start .args .buy) (start .args .sell) (start .pre .1) (after .before .before .before .before .before .before .before .before .before .before .before .before .before .before .before .before .before .before .before .before .remove-quote .ensures .lies) (after .before .before .before .before .before .before .before .before .before .before .before .before .before .before .before .day-limit .ensures) (after .before .before .before .before .before .before .before .before .before .before .before .enter-marked .ensures) (after .before .before .if1 .left) (after .day-limit2 .ensures) (c .before .before .before .before .before .before .before .before .before .before .before .before .before .before .before .enter-marked2 .ensures) (c .before .before .before .before .before .before .if2 .left) (c .accepted .ensures)
 
 pub place-spec : {M : Type 1} → statement M
 place-spec =

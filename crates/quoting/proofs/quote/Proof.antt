@@ -1,114 +1,117 @@
--- `quoting::quote` meets its contract: refused by the tests on the state alone, or placed; where an order is refused, the areas as they
--- were. Assumes nothing.
+-- `quoting::quote` meets its contract: refused by the tests on the state alone; or both orders rest; or both queues are put back. Assumes
+-- nothing.
 use mathlib.Core.Bool.{true, false}
 use mathlib.Core.Path.{_≡_, refl, sym, _∙_}
 use Prim.Native.Nat.{_<_}
 use native.Mathlib.Omega.{arith}
 use denote.Ref.{now}
 use Rattle.rules.specs.Answers.{firstOf, namedRefusals, notContinuous}
+use Rattle.rules.specs.Bounds.{maxContracts}
 use Rattle.rules.specs.Exchange.{placeOf}
 use Rattle.rules.specs.Memory.{exchangeOf, memory}
 use Rattle.rules.proofs.Refusals.{Failed}
-use Rattle.engine.proofs.Formed.{formed}
+use Rattle.engine.proofs.Decisions.{held-here, refusal-decided}
+use Rattle.engine.proofs.Formed.{formed, no-account}
 use Rattle.quoting.specs.Placing.{earlyRefusals}
 use Rattle.refusals.proofs.Continuous.{contract-here, contract-low}
-use Rattle.quoting.proofs.Placing.{early-refused, named-passed, quote-undone}
-use Rattle.quoting.proofs.Undo.{kept-room, queue-room, undone}
+use Rattle.quoting.proofs.Placing.{early-refused, named-passed}
+use Rattle.quoting.proofs.Resting.{quote-left, quote-refused, quote-rests}
+use Rattle.quoting.proofs.Undo.{queue-room, undone}
 use borrow.Author.Needs.{needs}
 use Rattle.quoting.proofs.quote.Statement.{statement}
 use Rattle.quoting.proofs.quote.Tie as tie
 
+-- from the last of the early tests to the start
+abbrev Begun : tie.Else1 → tie.Start
+Begun c = c .before .before .before .before .before
+
+-- from both orders to the contract's place, and to where each queue was kept
+abbrev Named : tie.After-rest-both → tie.After-place-of
+Named c = c .before .before .before .before .before .before .before .before .before .before .before
+
+abbrev Bids : tie.After-rest-both → tie.After-keep
+Bids c = c .before .before .before .before .before .before .before .before
+
+abbrev Offers : tie.After-rest-both → tie.After-keep2
+Offers c = c .before .before .before .before
+
 -- none of 2, 3, 4, 23 and 24 holds
-none : (c : tie.Else1) → let start = c .before .before .before .before .before in firstOf (earlyRefusals (exchangeOf (memory (start .args .state) (now (start .args .buys)) (now (start .args .sells)) (now (start .args .trades)))) (start .args .account) (start .args .contract) (start .args .buy) (start .args .sell)) ≡ 0
-none c = sym (c .before .early-code .ensures (c .before .before .before .before .before .pre .declared) _ _ _) ∙ c .if1 .left
+none : (c : tie.Else1) → let start = Begun c in
+    firstOf (earlyRefusals (exchangeOf (memory (start .args .state) (now (start .args .buys)) (now (start .args .sells)) (now (start .args .trades)))) (start .args .q .account) (start .args .q .contract) (start .args .q .buy) (start .args .q .sell)) ≡ 0
+none c = sym (c .before .early-code .ensures (Begun c .pre .0 .declared) _ _ _) ∙ c .if1 .left
 
-named : (c : tie.Else1) → let start = c .before .before .before .before .before in Failed (namedRefusals (exchangeOf (memory (start .args .state) (now (start .args .buys)) (now (start .args .sells)) (now (start .args .trades)))) notContinuous (start .args .account) (start .args .contract))
-named c = let start = c .before .before .before .before .before in named-passed _ _ _ (start .args .buy) (start .args .sell) (none c)
+named : (c : tie.Else1) → let start = Begun c in
+    Failed (namedRefusals (exchangeOf (memory (start .args .state) (now (start .args .buys)) (now (start .args .sells)) (now (start .args .trades)))) notContinuous (start .args .q .account) (start .args .q .contract))
+named c = named-passed _ _ _ (Begun c .args .q .buy) (Begun c .args .q .sell) (none c)
 
-here : (c : tie.Else1) → let start = c .before .before .before .before .before in placeOf (start .args .contract) < start .args .state .contractcount
-here c = contract-here (c .before .before .before .before .before .pre) _ _ (named c)
+here : (c : tie.Else1) → placeOf (Begun c .args .q .contract) < Begun c .args .state .contractcount
+here c = contract-here (Begun c .pre .0) _ _ (named c)
 
 early-code-requires : tie.Need-early-code-requires
 early-code-requires c κs =
     let start = c .before .before .before in
-    (formed (start .pre) .contracts-high, formed (start .pre) .accounts-high)
+    (formed (start .pre .0) .contracts-high, formed (start .pre .0) .accounts-high)
 
 refused-requires : tie.Need-refused-requires
 refused-requires c κs = search needs
 
 returns : tie.Need-returns
 returns c =
-    let start = c .before .before .before .before .before .before in
-    early-refused (start .pre) (start .args .account) (start .args .contract) (start .args .lots) (start .args .buy) (start .args .sell) (c .before .before .early-code .ensures (start .pre .declared) _ _ _) (c .before .if1 .taken) (c .refused .ensures)
+    let tested = c .before .before in
+    let start = tested .before .before .before .before in
+    let q = start .args .q in
+    refusal-decided (early-refused (start .pre .0) (q .account) (q .contract) (q .lots) (q .buy) (q .sell) (tested .early-code .ensures (start .pre .0 .declared) _ _ _) (c .before .if1 .taken) refl) (c .refused .ensures)
 
 place-of-requires : tie.Need-place-of-requires
 place-of-requires c κs =
-    let start = c .before .before .before .before .before in
-    contract-low (start .pre) _ _ (named c)
+    contract-low (Begun c .pre .0) _ _ (named c)
 
 mul-queue : tie.Need-mul-queue
 mul-queue c = search needs
-
-first-made-requires : tie.Need-first-made-requires
-first-made-requires c κs =
-    let start = c .before .before .before .before .before .before in
-    formed (start .pre) .trades-high
 
 slice-aggregate-keep : tie.Need-slice-aggregate-keep
 slice-aggregate-keep c = search needs
 
 keep-requires : tie.Need-keep-requires
 keep-requires c κs =
-    let start = c .before .before .before .before .before .before .before .before .before in
-    queue-room (start .pre) (here (c .before .before .before .before)) false (c .before .before .before .place-of .ensures) refl
+    let named = c .before .before in
+    queue-room (Begun (named .before) .pre .0) (here (named .before)) false (named .place-of .ensures) refl
 
 slice-aggregate-keep-2 : tie.Need-slice-aggregate-keep-2
 slice-aggregate-keep-2 c = search needs
 
 keep-requires-2 : tie.Need-keep-requires-2
 keep-requires-2 c κs =
-    let start = c .before .before .before .before .before .before .before .before .before .before .before .before .before in
-    queue-room (start .pre) (here (c .before .before .before .before .before .before .before .before)) true (c .before .before .before .before .before .before .before .place-of .ensures) refl
+    let named = c .before .before .before .before .before .before in
+    queue-room (Begun (named .before) .pre .0) (here (named .before)) true (named .place-of .ensures) refl
 
-slice-aggregate-keep-3 : tie.Need-slice-aggregate-keep-3
-slice-aggregate-keep-3 c = search needs
-
-keep-requires-3 : tie.Need-keep-requires-3
-keep-requires-3 c κs =
-    let start = c .before .before .before .before .before .before .before .before .before .before .before .before .before .before .before .before .before in
-    kept-room (start .pre) (c .before .before .before .before .before .before .before .before .before .before .first-made .ensures) refl
-
-place-requires : tie.Need-place-requires
-place-requires c κs =
-    let start = c .before .before .before .before .before .before .before .before .before .before .before .before .before .before .before .before .before .before .before .before .before .before in
-    (start .pre, none (c .before .before .before .before .before .before .before .before .before .before .before .before .before .before .before .before .before))
+rest-both-requires : tie.Need-rest-both-requires
+rest-both-requires c κs =
+    let named-place = c .before .before .before .before .before .before .before .before .before .before in
+    let tested = named-place .before in
+    let start = Begun tested in
+    (start .pre .0, none tested, held-here (start .args .state) (start .args .q .account) (sym (no-account _ (formed (start .pre .0)) _) ∙ named tested .0) (start .pre .1))
 
 slice-aggregate-put-back : tie.Need-slice-aggregate-put-back
-slice-aggregate-put-back c = omega (arith, c .before .before .before .before .before .before .before .before .before .before .before .before .before .before .before .before .before .before .before .before .before .before .before .bids2 .given)
+slice-aggregate-put-back c = search needs
 
 put-back-requires : tie.Need-put-back-requires
 put-back-requires c κs =
-    let after = c .before .before .before .before .before .before .before .before .before .before .before .before .before .before .before .before .before .before .before .before .before .before .before in
-    let start = after .before .before .before .before .before .before .before .before .before .before .before in
-    omega (arith, after .bids2 .given, queue-room (start .pre) (here (after .before .before .before .before .before .before)) false (after .before .before .before .before .before .place-of .ensures) refl, c .before .before .before .before .before .before .before .before .before .before .before .place .ensures .buys-back (c .before .before .if2 .taken) .long)
+    let placed = c .before .before .before .before .before .before .before .before .before .before in
+    let named-place = Named placed in
+    omega (arith, placed .before .before .before .before .before .before .before .bids2 .given, queue-room (Begun (named-place .before) .pre .0) (here (named-place .before)) false (named-place .place-of .ensures) refl, placed .rest-both .ensures .refused-back (c .before .before .if2 .taken) .of-buys .long)
 
 slice-aggregate-put-back-2 : tie.Need-slice-aggregate-put-back-2
 slice-aggregate-put-back-2 c = search needs
 
 put-back-requires-2 : tie.Need-put-back-requires-2
 put-back-requires-2 c κs =
-    let after = c .before .before .before .before .before .before .before .before .before .before .before .before .before .before .before .before .before .before .before .before .before .before .before .before in
-    let start = after .before .before .before .before .before .before .before .before .before .before .before .before .before .before .before in
-    omega (arith, after .offers2 .given, queue-room (start .pre) (here (after .before .before .before .before .before .before .before .before .before .before)) true (after .before .before .before .before .before .before .before .before .before .place-of .ensures) refl, c .before .before .before .before .before .before .before .before .before .before .before .before .before .before .before .before .place .ensures .sells-back (c .before .before .before .before .before .before .before .if2 .taken) .long)
+    let placed = c .before .before .before .before .before .before .before .before .before .before .before .before .before .before .before in
+    let named-place = Named placed in
+    omega (arith, placed .before .before .before .offers2 .given, queue-room (Begun (named-place .before) .pre .0) (here (named-place .before)) true (named-place .place-of .ensures) refl, placed .rest-both .ensures .refused-back (c .before .before .before .before .before .before .before .if2 .taken) .of-sells .long)
 
-slice-aggregate-put-back-3 : tie.Need-slice-aggregate-put-back-3
-slice-aggregate-put-back-3 c = search needs
-
-put-back-requires-3 : tie.Need-put-back-requires-3
-put-back-requires-3 c κs =
-    let after = c .before .before .before .before .before .before .before .before .before .before .before .before .before .before .before .before .before .before .before .before .before in
-    let start = after .before .before .before .before .before .before .before .before .before .before .before .before .before .before .before .before .before .before .before .before .before .before .before in
-    omega (arith, after .before .before .before .before .made2 .given, kept-room (start .pre) (after .before .before .before .before .before .before .before .before .before .before .before .before .before .before .before .before .first-made .ensures) refl, after .place .ensures .trades-back (c .before .before .before .before .before .before .before .before .before .before .before .before .if2 .taken) .long)
+refused-requires-2 : tie.Need-refused-requires-2
+refused-requires-2 c κs = search needs
 
 same-length : tie.Need-same-length
 same-length c = search needs
@@ -116,22 +119,54 @@ same-length c = search needs
 same-length-2 : tie.Need-same-length-2
 same-length-2 c = search needs
 
+returns-2 : tie.Need-returns-2
+returns-2 c =
+    let placed = c .before .before .before .before .before .before .before .before .before .before .before .before .before .before .before .before .before .before .before in
+    let some = c .before .before .before .before .before .before .before .before .before .before .before .if2 .taken in
+    let back = placed .rest-both .ensures .refused-back some in
+    let queue = Named placed .place-of .ensures in
+    quote-refused (placed .rest-both .ensures) some
+    (undone (back .of-buys) (rw queue refl) refl (Bids placed .keep .ensures) (c .before .before .before .before .before .before .before .before .put-back .ensures))
+    (undone (back .of-sells) (rw queue refl) refl (Offers placed .keep2 .ensures) (c .before .before .before .put-back2 .ensures)) (c .refused2 .ensures)
+
+slice-aggregate-put-back-3 : tie.Need-slice-aggregate-put-back-3
+slice-aggregate-put-back-3 c = search needs
+
+put-back-requires-3 : tie.Need-put-back-requires-3
+put-back-requires-3 c κs =
+    let placed = c .before .before .before .before .before .before .before .before .before .before .before in
+    let named-place = Named placed in
+    omega (arith, placed .before .before .before .before .before .before .before .bids2 .given, queue-room (Begun (named-place .before) .pre .0) (here (named-place .before)) false (named-place .place-of .ensures) refl, placed .rest-both .ensures .left-back (c .before .before .before .if2 .left) (c .before .before .if3 .taken) .of-buys .long)
+
+slice-aggregate-put-back-4 : tie.Need-slice-aggregate-put-back-4
+slice-aggregate-put-back-4 c = search needs
+
+put-back-requires-4 : tie.Need-put-back-requires-4
+put-back-requires-4 c κs =
+    let placed = c .before .before .before .before .before .before .before .before .before .before .before .before .before .before .before .before in
+    let named-place = Named placed in
+    omega (arith, placed .before .before .before .offers2 .given, queue-room (Begun (named-place .before) .pre .0) (here (named-place .before)) true (named-place .place-of .ensures) refl, placed .rest-both .ensures .left-back (c .before .before .before .before .before .before .before .before .if2 .left) (c .before .before .before .before .before .before .before .if3 .taken) .of-sells .long)
+
+left-to-trade-requires : tie.Need-left-to-trade-requires
+left-to-trade-requires c κs = search needs
+
+left-requires : tie.Need-left-requires
+left-requires c κs = search needs
+
 same-length-3 : tie.Need-same-length-3
 same-length-3 c = search needs
 
-returns-2 : tie.Need-returns-2
-returns-2 c =
-    let after = c .before .before .before .before .before .before .before .before .before .before .before .before .before .before .before .before .before .before .before .before .before .before .before .before in
-    let placed = after .place .ensures in
-    let some = c .before .before .before .before .before .before .before .before .before .before .before .before .before .before .before .if2 .taken in
-    let queue = after .before .before .before .before .before .before .before .before .before .before .before .before .before .before .before .before .before .place-of .ensures in
-    quote-undone placed some
-    (undone (placed .buys-back some) (rw queue refl) refl (after .before .before .before .before .before .before .before .before .before .before .before .before .before .keep .ensures) (c .before .before .before .before .before .before .before .before .before .before .before .before .put-back .ensures))
-    (undone (placed .sells-back some) (rw queue refl) refl (after .before .before .before .before .before .before .before .before .before .keep2 .ensures) (c .before .before .before .before .before .before .before .put-back2 .ensures))
-    (undone (placed .trades-back some) (after .before .before .before .before .before .before .before .before .before .before .before .before .before .before .before .before .first-made .ensures) refl (after .before .before .before .before .before .keep3 .ensures) (c .before .before .put-back3 .ensures))
-
 same-length-4 : tie.Need-same-length-4
 same-length-4 c = search needs
+
+returns-3 : tie.Need-returns-3
+returns-3 c =
+    let placed = c .before .before .before .before .before .before .before .before .before .before .before .before .before .before .before .before .before .before .before .before .before in
+    let back = placed .rest-both .ensures .left-back (c .before .before .before .before .before .before .before .before .before .before .before .before .before .if2 .left) (c .before .before .before .before .before .before .before .before .before .before .before .before .if3 .taken) in
+    let queue = Named placed .place-of .ensures in
+    quote-left (placed .rest-both .ensures)
+    (undone (back .of-buys) (rw queue refl) refl (Bids placed .keep .ensures) (c .before .before .before .before .before .before .before .before .before .put-back3 .ensures))
+    (undone (back .of-sells) (rw queue refl) refl (Offers placed .keep2 .ensures) (c .before .before .before .before .put-back4 .ensures)) (c .before .left-to-trade .ensures) (c .left .ensures)
 
 same-length-5 : tie.Need-same-length-5
 same-length-5 c = search needs
@@ -139,8 +174,12 @@ same-length-5 c = search needs
 same-length-6 : tie.Need-same-length-6
 same-length-6 c = search needs
 
-returns-3 : tie.Need-returns-3
-returns-3 c = c .before .before .before .before .before .before .before .before .before .place .ensures .accepted (c .if2 .left)
+returns-4 : tie.Need-returns-4
+returns-4 c =
+    let placed = c .before .before .before .before .before .before .before .before .before in
+    let tested = Named placed .before in
+    quote-rests (placed .rest-both .ensures) (c .before .if2 .left) (c .if3 .left)
+    (omega (arith, placed .rest-both .ensures .place, here tested, formed (Begun tested .pre .0) .contracts-high))
 
 pub quote-spec : {M : Type 1} → statement M
 quote-spec =
@@ -151,25 +190,28 @@ quote-spec =
     returns
     place-of-requires
     mul-queue
-    first-made-requires
     slice-aggregate-keep
     keep-requires
     slice-aggregate-keep-2
     keep-requires-2
-    slice-aggregate-keep-3
-    keep-requires-3
-    place-requires
+    rest-both-requires
     slice-aggregate-put-back
     put-back-requires
     slice-aggregate-put-back-2
     put-back-requires-2
-    slice-aggregate-put-back-3
-    put-back-requires-3
+    refused-requires-2
     same-length
     same-length-2
-    same-length-3
     returns-2
+    slice-aggregate-put-back-3
+    put-back-requires-3
+    slice-aggregate-put-back-4
+    put-back-requires-4
+    left-to-trade-requires
+    left-requires
+    same-length-3
     same-length-4
+    returns-3
     same-length-5
     same-length-6
-    returns-3)
+    returns-4)

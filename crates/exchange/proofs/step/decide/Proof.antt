@@ -26,6 +26,13 @@ insert-requires c κs =
     let start = matched .before .before .before .before in
     (start .pre .0, held-as (start .args .state) (told .command3 .given .1) (start .pre .1))
 
+quote-requires : tie.Need-quote-requires
+quote-requires c κs =
+    let told = c .before .before .before in
+    let matched = told .before in
+    let start = matched .before .before .before .before in
+    (start .pre .0, held-as (start .args .state) (told .command7 .given .1) (start .pre .1))
+
 change-requires : tie.Need-change-requires-2
 change-requires c κs =
     let told = c .before .before .before in
@@ -45,7 +52,7 @@ decide-spec =
     (λ c. search needs) (λ c κs. search needs)
     (λ c. search needs) (λ c κs. search needs)
     (λ c. search needs) (λ c κs. search needs)
-    (λ c. search needs) (λ c κs. search needs)
+    (λ c. search needs) quote-requires
     (λ c. search needs) change-requires
     (λ c. search malformed-decided)
     (λ c. search needs) (λ c. search needs) (λ c. search decided-as)
@@ -55,5 +62,5 @@ decide-spec =
     (λ c. search needs) (λ c. search needs) (λ c. search (decided-as, c .before .before .before .before))
     (λ c. search needs) (λ c. search needs) (λ c. search decided-as)
     (λ c. whole-decided _ (c .before .enum-told2 .given .1) (c .left .ensures))
-    (λ c. whole-decided _ (c .before .before .command7 .given .1) (c .left2 .ensures))
+    (λ c. search needs) (λ c. search needs) (λ c. search (decided-as, c .before .before .before .before))
     (λ c. search needs) (λ c. search needs) (λ c. search (decided-as, c .before .before .before .before)))
