@@ -2,13 +2,9 @@
 -- and a closed lot gains from its pair's price to its own what it gains from there to the settlement price and from the
 -- settlement price to its own. So the total speaks of no pair: it is what the legs sold for less what they cost, with the net
 -- holding at the settlement price at the end and at the reference at the start. Assumes nothing.
-use mathlib.Core.Bool.{Bool, true, false}
-use mathlib.Core.List.{List, [], _∷_, _++_}
-use mathlib.Core.Path.{_≡_, refl, sym, ap, ap₂, _∙_}
-use Prim.Native.Nat.{ℕ, zero, suc, _*_}
-use native.Mathlib.Omega.{arith}
 use lib.IntN.{ℤ, pos, negℤ, _+ℤ_, _-ℤ_, _*ℤ_, +ℤ-assoc}
-use lib.ListN.{length, getD, replicate}
+use Rattle.laws.specs.Logic.{Bool, true, false, List, [], _∷_, _++_, _≡_, refl, sym, ap, ap₂, _∙_}
+use Rattle.laws.specs.Numbers.{ℕ, zero, suc, _*_, arith, length, getD, replicate}
 use Rattle.laws.specs.Choice.{pick}
 use Rattle.laws.specs.Ring.{split, d-eq, d-inj, ring, *ℤ-add}
 use Rattle.laws.specs.Sums.{sumTo, sumTo-ext, sumTo-add, sumTo-first}
@@ -35,8 +31,7 @@ priced f (l ∷ ls) = f (l .price) +ℤ priced f ls
 priced-sumTo : (f : ℕ → ℤ) (ls : List Lot) → sumTo (length ls) (λ i. f (getD ls i noLot .price)) ≡ priced f ls
 unfolding priced sumTo
 priced-sumTo f [] = refl
-priced-sumTo f (l ∷ ls) =
-    sumTo-first (length ls) (λ i. f (getD (l ∷ ls) i noLot .price)) ∙ ap (λ (z : ℤ). f (l .price) +ℤ z) (priced-sumTo f ls)
+priced-sumTo f (l ∷ ls) = sumTo-first (length ls) (λ i. f (getD (l ∷ ls) i noLot .price)) ∙ ap (λ (z : ℤ). f (l .price) +ℤ z) (priced-sumTo f ls)
 
 priced-replicate : (f : ℕ → ℤ) (n : ℕ) (l : Lot) (ls : List Lot) → priced f (replicate n l ++ ls) ≡ f (l .price) *ℤ pos n +ℤ priced f ls
 unfolding priced
@@ -55,8 +50,7 @@ side-total side s open′ closed of m =
     (λ i b. gained-by side (getD open′ (of i) noLot .price) s (getD closed i noLot .price))
     ∙ sumTo-add (length closed) (λ i. gained side s (getD closed i noLot .price)) (λ i. toSettlement (of i)))
     ∙ +ℤ-assoc (sumTo (length closed) (λ i. gained side s (getD closed i noLot .price))) (sumTo (length closed) (λ i. toSettlement (of i)))
-    (holdingBy side s open′ closed of)
-    ∙ ap₂ (λ (y z : ℤ). y +ℤ z) (priced-sumTo (gained side s) closed)
+    (holdingBy side s open′ closed of) ∙ ap₂ (λ (y z : ℤ). y +ℤ z) (priced-sumTo (gained side s) closed)
     (met-and-others (length open′) of toSettlement (length closed) (m .among) (λ i j h k e. omega (arith, m .once i j h k e)) ∙ priced-sumTo (λ p. gained side p s) open′)
   where
     toSettlement : ℕ → ℤ
@@ -148,8 +142,7 @@ module _ (reference s heldLong heldShort : ℕ) (ls : List Leg) (of : Side → �
       sideClosing side +ℤ sideHolding side ≡ closedPart s side 1 ls +ℤ (gained side reference s *ℤ pos (held side) +ℤ openPart s side 1 ls)
   unfolding sideClosing sideHolding openLots closedLots closedPart openPart
   side-day side m =
-      side-total side s (openLots side reference (held side) ls) (closedLots side ls) (of side) m
-      ∙ ap (λ (z : ℤ). closedPart s side 1 ls +ℤ z)
+      side-total side s (openLots side reference (held side) ls) (closedLots side ls) (of side) m ∙ ap (λ (z : ℤ). closedPart s side 1 ls +ℤ z)
       (priced-replicate (λ p. gained side p s) (held side) (record { price = reference; time = 0 }) (lotsOfLegs (opens side) 1 ls))
 
   paired-profit :
@@ -164,8 +157,7 @@ module _ (reference s heldLong heldShort : ℕ) (ls : List Leg) (of : Side → �
       (closedPart s long 1 ls) (openPart s long 1 ls) (closedPart s short 1 ls) (openPart s short 1 ls) (flow ls) (net ls)
       (side-day long longs) (side-day short shorts) (parts-are s 1 ls)
     where
-      at : (cl cs hl hs a b c d f n : ℤ) →
-          cl +ℤ hl ≡ a +ℤ ((pos s -ℤ pos reference) *ℤ pos heldLong +ℤ b) →
+      at : (cl cs hl hs a b c d f n : ℤ) → cl +ℤ hl ≡ a +ℤ ((pos s -ℤ pos reference) *ℤ pos heldLong +ℤ b) →
           cs +ℤ hs ≡ c +ℤ ((pos reference -ℤ pos s) *ℤ pos heldShort +ℤ d) →
           a +ℤ b +ℤ (c +ℤ d) ≡ f +ℤ pos s *ℤ n →
           cl +ℤ cs +ℤ (hl +ℤ hs)

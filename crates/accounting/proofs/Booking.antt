@@ -1,19 +1,12 @@
 -- What a booked leg does to the holdings: the one place that it names is changed, and no other. Assumes nothing.
-use mathlib.Core.Bool.{Bool, true, false}
-use mathlib.Core.List.{List, [], _∷_}
-use mathlib.Core.Path.{_≡_, refl, sym, ap, _∙_}
-use Prim.Native.Nat.{ℕ, zero, suc, _+_, _-_, _<_}
-use native.Mathlib.Nat.{le-of-suc-le-suc, not-suc-le-zero}
-use lib.Dec.{eqb}
-use lib.ListN.{length, getD, set, length-set, length-map, List·getD-map}
-use lib.Seq.{getD-set-same, getD-set-other}
+use Rattle.laws.specs.Logic.{Bool, true, false, List, [], _∷_, _≡_, refl, sym, ap, _∙_}
+use Rattle.laws.specs.Numbers.{ℕ, zero, suc, _+_, _-_, _<_, le-of-suc-le-suc, not-suc-le-zero, eqb, length, getD, set, length-map, length-set, List·getD-map}
+use Rattle.laws.specs.Numbers.{getD-set-same, getD-set-other}
 use Rattle.laws.specs.Choice.{pick}
 use Rattle.laws.specs.Lists.{kept-at}
 use Rattle.rules.specs.Exchange.{noAccount, noHolding, accountAt, holdingAt}
 use Rattle.rules.specs.Holdings.{withLong, withShort, withHolding, startHolding, startAccount, startOfDay, afterLeg, bookLeg, bookBuyer, bookTrade, bookTrades}
-use Rattle.rules.specs.declared.Account.{Account}
-use Rattle.rules.specs.declared.Holding.{Holding}
-use Rattle.rules.specs.declared.Trade.{Trade}
+use Rattle.rules.specs.declared.{Account.Account, Holding.Holding, Trade.Trade}
 use Rattle.accounting.specs.Shape.{Placed}
 
 -- ---- one holding replaced
@@ -72,8 +65,7 @@ module _ (accounts : List Account) (sell : Bool) (close lots : ℕ) where
   unfolding holdingAt accountAt bookLeg replaced
   booked-here a c p = replaced-here accounts a c _ (p .account) (p .contract)
 
-  pub booked-elsewhere : (u e a c : ℕ) → (u ≡ a → e ≡ c → ⊥) →
-      holdingAt (bookLeg accounts u e sell close lots) a c ≡ holdingAt accounts a c
+  pub booked-elsewhere : (u e a c : ℕ) → (u ≡ a → e ≡ c → ⊥) → holdingAt (bookLeg accounts u e sell close lots) a c ≡ holdingAt accounts a c
   unfolding holdingAt accountAt bookLeg replaced
   booked-elsewhere u e a c n = replaced-elsewhere accounts u e a c _ n
 
@@ -87,8 +79,7 @@ module _ (accounts : List Account) (sell : Bool) (close lots : ℕ) where
   unfolding bookLeg
   booked-length u e = length-set accounts u _
 
-  pub booked-wide : (u e a : ℕ) →
-      length (accountAt (bookLeg accounts u e sell close lots) a .holdings) ≡ length (accountAt accounts a .holdings)
+  pub booked-wide : (u e a : ℕ) → length (accountAt (bookLeg accounts u e sell close lots) a .holdings) ≡ length (accountAt accounts a .holdings)
   unfolding accountAt bookLeg
   booked-wide u e a = kept-at (λ (x : Account). length (x .holdings)) accounts u _ noAccount (length-set (getD accounts u noAccount .holdings) e _) a
 
@@ -120,8 +111,7 @@ module _ {B : Type 0} (f : List Account → B)
   unfolding bookTrades bookTrade
   all-booked accounts [] = refl
   all-booked accounts (t ∷ ts) =
-      all-booked (bookTrade accounts t) ts
-      ∙ k (bookBuyer accounts t) true (t .sellclose) (t .lots) (t .seller) (t .contract)
+      all-booked (bookTrade accounts t) ts ∙ k (bookBuyer accounts t) true (t .sellclose) (t .lots) (t .seller) (t .contract)
       ∙ k accounts false (t .buyclose) (t .lots) (t .buyer) (t .contract)
 
 module _ (accounts : List Account) (ts : List Trade) where

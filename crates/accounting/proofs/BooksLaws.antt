@@ -1,11 +1,8 @@
 -- Marking to market makes and loses nothing, for any list of moves: an account's cash changes by what it is paid and what its
 -- trades bring in, its position by its trades, and all balances together by what is paid. Assumes nothing.
-use mathlib.Core.List.{List, [], _++_}
-use mathlib.Core.Path.{_≡_, refl, sym, ap, ap₂, _∙_}
-use Prim.Native.Nat.{ℕ, zero, suc, _<_}
-use native.Mathlib.Omega.{arith}
-use lib.Dec.{eqb}
 use lib.IntN.{ℤ, pos, negℤ, _+ℤ_, _-ℤ_, _*ℤ_, +ℤ-assoc, +ℤ-idl, +ℤ-idr, *ℤ-zero}
+use Rattle.laws.specs.Logic.{List, [], _++_, _≡_, refl, sym, ap, ap₂, _∙_}
+use Rattle.laws.specs.Numbers.{ℕ, zero, suc, _<_, arith, eqb}
 use Rattle.laws.specs.Choice.{pick}
 use Rattle.laws.specs.Ring.{split, d-eq, ring, *ℤ-add}
 use Rattle.laws.specs.Sums.{sumTo, sumTo-ext, sumTo-add, sumTo-mul, sumTo-zero}
@@ -44,9 +41,6 @@ settles-algebra : (m r q : ℕ) (p n k : ℤ) →
     pos m *ℤ (p +ℤ pos q *ℤ (n +ℤ k) -ℤ pos r *ℤ n) +ℤ pos m *ℤ (pos 0 -ℤ pos q *ℤ (n +ℤ k)) ≡ pos m *ℤ (p -ℤ pos r *ℤ n)
 settles-algebra m r q p n k = rw (split p, split n, split k) (simp ring (d-eq _ _ _ _ (omega arith)))
 
-nothing-more : (x : ℤ) → x ≡ x +ℤ (pos 0 +ℤ pos 0)
-nothing-more x = sym (+ℤ-idr x)
-
 module _ (contracts : ℕ) (s : Books) (a : ℕ) where
   -- one contract's part of the cash
   kept : ℕ → ℤ
@@ -69,13 +63,11 @@ module _ (contracts : ℕ) (s : Books) (a : ℕ) where
   cash-settles : (price : ℕ → ℕ) → cash contracts (after contracts s (settles price)) a ≡ cash contracts s a +ℤ (pos 0 +ℤ pos 0)
   unfolding cash after kept marked
   cash-settles price =
-      +ℤ-assoc (s .balance a) _ _
-      ∙ ap (λ (z : ℤ). s .balance a +ℤ z)
+      +ℤ-assoc (s .balance a) _ _ ∙ ap (λ (z : ℤ). s .balance a +ℤ z)
       (sym (sumTo-add contracts (λ c. pos (s .multiplier c) *ℤ marked s (price c) a c)
-      (λ c. pos (s .multiplier c) *ℤ (proceeds a c [] -ℤ pos (price c) *ℤ (s .start a c +ℤ netHolding a c (s .trades)))))
-      ∙ sumTo-ext contracts _ kept
+      (λ c. pos (s .multiplier c) *ℤ (proceeds a c [] -ℤ pos (price c) *ℤ (s .start a c +ℤ netHolding a c (s .trades))))) ∙ sumTo-ext contracts _ kept
       (λ c l. rw (proceeds-nil a c) (settles-algebra (s .multiplier c) (s .reference c) (price c) (proceeds a c (s .trades)) (s .start a c) (netHolding a c (s .trades)))))
-      ∙ nothing-more (s .balance a +ℤ sumTo contracts kept)
+      ∙ (sym (+ℤ-idr (s .balance a +ℤ sumTo contracts kept)))
 
   cash-after : (m : Move) → cash contracts (after contracts s m) a ≡ cash contracts s a +ℤ (paidBy a m +ℤ brought contracts s a (madeBy m))
   unfolding paidBy madeBy after
@@ -93,14 +85,11 @@ module _ (contracts : ℕ) (s : Books) (a : ℕ) where
 
 -- ---- over all accounts
 
-marked-sum : (n m q r : ℕ) (P S N : ℕ → ℤ) →
-    sumTo n (λ a. pos m *ℤ (P a +ℤ pos q *ℤ (S a +ℤ N a) -ℤ pos r *ℤ S a))
+marked-sum : (n m q r : ℕ) (P S N : ℕ → ℤ) → sumTo n (λ a. pos m *ℤ (P a +ℤ pos q *ℤ (S a +ℤ N a) -ℤ pos r *ℤ S a))
     ≡ pos m *ℤ (sumTo n P +ℤ pos q *ℤ (sumTo n S +ℤ sumTo n N) -ℤ pos r *ℤ sumTo n S)
 marked-sum n m q r P S N =
-    sumTo-mul n (pos m) (λ a. P a +ℤ pos q *ℤ (S a +ℤ N a) -ℤ pos r *ℤ S a)
-    ∙ ap (λ (z : ℤ). pos m *ℤ z)
-    (sumTo-sub n (λ a. P a +ℤ pos q *ℤ (S a +ℤ N a)) (λ a. pos r *ℤ S a)
-    ∙ ap₂ (λ (u v : ℤ). u -ℤ v)
+    sumTo-mul n (pos m) (λ a. P a +ℤ pos q *ℤ (S a +ℤ N a) -ℤ pos r *ℤ S a) ∙ ap (λ (z : ℤ). pos m *ℤ z)
+    (sumTo-sub n (λ a. P a +ℤ pos q *ℤ (S a +ℤ N a)) (λ a. pos r *ℤ S a) ∙ ap₂ (λ (u v : ℤ). u -ℤ v)
     (sumTo-add n P (λ a. pos q *ℤ (S a +ℤ N a))
     ∙ ap (λ (z : ℤ). sumTo n P +ℤ z) (sumTo-mul n (pos q) (λ a. S a +ℤ N a) ∙ ap (λ (z : ℤ). pos q *ℤ z) (sumTo-add n S N)))
     (sumTo-mul n (pos r) S))
@@ -126,8 +115,7 @@ module _ (accounts contracts : ℕ) (s : Books) (known : AllKnown accounts (s .t
       nothing : (m q r : ℕ) → pos m *ℤ (pos 0 +ℤ pos q *ℤ (pos 0 +ℤ pos 0) -ℤ pos r *ℤ pos 0) ≡ pos 0
       nothing m q r = simp ring (d-eq _ _ _ _ (omega arith))
 
-  total-after : (m : Move) →
-      sumTo accounts (after contracts s m .balance) ≡ sumTo accounts (s .balance) +ℤ sumTo accounts (λ a. paidBy a m)
+  total-after : (m : Move) → sumTo accounts (after contracts s m .balance) ≡ sumTo accounts (s .balance) +ℤ sumTo accounts (λ a. paidBy a m)
   unfolding after paidBy
   total-after (paysIn u n) = sumTo-add accounts (s .balance) (λ a. pick (eqb u a) (pos n) (pos 0))
   total-after (paysOut u n) = sumTo-add accounts (s .balance) (λ a. pick (eqb u a) (negℤ (pos n)) (pos 0))
@@ -193,10 +181,9 @@ module _ (accounts contracts : ℕ) where
   pub reached-cash : {s s′ : Books} {ms : List Move} → Reached accounts contracts s ms s′ → (a : ℕ) → a < accounts →
       cash contracts s′ a ≡ cash contracts s a +ℤ (paid a ms +ℤ brought contracts s a (made ms))
   unfolding paid made
-  reached-cash (stay {s = s}) a l = rw (brought-nil contracts s a) (nothing-more (cash contracts s a))
+  reached-cash (stay {s = s}) a l = rw (brought-nil contracts s a) (sym (+ℤ-idr (cash contracts s a)))
   reached-cash (move {s = s} {s₁ = s₁} {s₂ = s₂} {m = m} {ms = ms} k e r) a l =
-      reached-cash r a l
-      ∙ ap₂ (λ (u v : ℤ). u +ℤ (paid a ms +ℤ v))
+      reached-cash r a l ∙ ap₂ (λ (u v : ℤ). u +ℤ (paid a ms +ℤ v))
       (sym (same-cash accounts contracts (after contracts s m) s₁ e a l) ∙ cash-after contracts s a m)
       (sym (same-brought accounts contracts (after contracts s m) s₁ e a (made ms)) ∙ brought-after contracts s m a (made ms))
       ∙ regroup (cash contracts s a) (paidBy a m) (paid a ms) (brought contracts s a (madeBy m)) (brought contracts s a (made ms))
@@ -243,12 +230,10 @@ pub balance-is : (contracts : ℕ) (s : Books) (a : ℕ) → s .trades ≡ [] �
     s .balance a ≡ cash contracts s a +ℤ sumTo contracts (λ c. pos (s .multiplier c) *ℤ (pos (s .reference c) *ℤ s .start a c))
 unfolding cash
 balance-is contracts s a e =
-    sym (+ℤ-idr (s .balance a))
-    ∙ ap (λ (z : ℤ). s .balance a +ℤ z)
+    sym (+ℤ-idr (s .balance a)) ∙ ap (λ (z : ℤ). s .balance a +ℤ z)
     (sym (sumTo-zero contracts)
     ∙ sumTo-ext contracts _ (λ c. off c +ℤ on c) (λ c l. rw (e, proceeds-nil a c) (put-back (s .multiplier c) (s .reference c) (s .start a c)))
-    ∙ sumTo-add contracts off on)
-    ∙ sym (+ℤ-assoc (s .balance a) (sumTo contracts off) (sumTo contracts on))
+    ∙ sumTo-add contracts off on) ∙ sym (+ℤ-assoc (s .balance a) (sumTo contracts off) (sumTo contracts on))
   where
     off : ℕ → ℤ
     off c = pos (s .multiplier c) *ℤ (proceeds a c (s .trades) -ℤ pos (s .reference c) *ℤ s .start a c)

@@ -3,21 +3,18 @@
 -- not; an opening without holdings is the case of nothing held. What the holdings were marked at is taken off the balance to give
 -- the cash, and no settlement changes cash and position (Books.antt). It rests on the two facts that Runs.antt rests on. Assumes
 -- nothing else.
-use mathlib.Core.Bool.{Bool, true, false}
-use mathlib.Core.List.{List, []}
-use mathlib.Core.Path.{_≡_, refl, sym, ap, ap₂, _∙_}
-use Prim.Native.Nat.{ℕ, _<_}
-use native.Mathlib.Omega.{arith}
 use lib.IntN.{ℤ, pos, negℤ, _+ℤ_, _-ℤ_, _*ℤ_, +ℤ-assoc, +ℤ-idr}
+use Rattle.laws.specs.Logic.{true, false, List, [], _≡_, refl, sym, ap, ap₂, _∙_}
+use Rattle.laws.specs.Numbers.{ℕ, _<_, arith}
 use Rattle.laws.specs.Ring.{split, d-eq, ring, *ℤ-add}
 use Rattle.laws.specs.Sums.{sumTo, sumTo-ext, sumTo-add, sumTo-zero}
+use Rattle.laws.specs.Choice.{by-test}
 use Rattle.rules.specs.Condition3.{run, moveOf, movesOf, paidIn, paidOut, tradesMade, sales, costs, netHolding, balanceIn, accountsOf, contractsOf, holdingIn, netIn, multiplierIn, referenceIn, Start, opened, Opening, loadedWorth, loaded, Loaded, worth, EndsSettled, Condition3, MoneyKept}
 use Rattle.rules.specs.Exchange.{Exchange}
 use Rattle.rules.specs.Kinds.{settles, kindOf, step}
 use Rattle.rules.specs.Memory.{Memory, exchangeOf, Declared, wellFormedMemory, respond}
 use Rattle.rules.specs.Settlement.{settlementPrice}
-use Rattle.rules.specs.declared.Trade.{Trade}
-use Rattle.rules.specs.declared.Command.{Command}
+use Rattle.rules.specs.declared.{Command.Command, Trade.Trade}
 use Rattle.rules.specs.declared.Command.the-variants.{Settle}
 use Rattle.accounting.specs.Books.{Books, booksOf, after, Same, Reached, paid, cash, position, brought, Level}
 use Rattle.accounting.specs.Money.{proceeds, netAtStart, netNow}
@@ -51,9 +48,7 @@ module _ (m : Memory) (o : Loaded m) (s : Sound (exchangeOf m)) where
   unfolding position booksOf
   loaded-start a c l k =
       sym (ap (λ (ts : List Trade). netAtStart (exchangeOf m) a c +ℤ netHolding a c ts) (o .no-trades)
-      ∙ ap (λ (z : ℤ). netAtStart (exchangeOf m) a c +ℤ z) (netHolding-nil a c)
-      ∙ +ℤ-idr (netAtStart (exchangeOf m) a c))
-      ∙ loaded-position a c l k
+      ∙ ap (λ (z : ℤ). netAtStart (exchangeOf m) a c +ℤ z) (netHolding-nil a c) ∙ +ℤ-idr (netAtStart (exchangeOf m) a c)) ∙ loaded-position a c l k
 
   loaded-level : Level (accountsOf m) (contractsOf m) (booksOf (exchangeOf m))
   unfolding Level
@@ -71,8 +66,7 @@ module _ (m : Memory) (o : Loaded m) (s : Sound (exchangeOf m)) where
   unfolding booksOf loadedWorth
   loaded-cash a l =
       other-part (balanceIn m a) (cash (contractsOf m) (booksOf (exchangeOf m)) a) (loadedWorth m a)
-      (balance-is (contractsOf m) (booksOf (exchangeOf m)) a (o .no-trades)
-      ∙ ap (λ (z : ℤ). cash (contractsOf m) (booksOf (exchangeOf m)) a +ℤ z)
+      (balance-is (contractsOf m) (booksOf (exchangeOf m)) a (o .no-trades) ∙ ap (λ (z : ℤ). cash (contractsOf m) (booksOf (exchangeOf m)) a +ℤ z)
       (sumTo-ext (contractsOf m) _ _ (λ c k. ap (λ (z : ℤ). pos (multiplierIn m c) *ℤ (pos (referenceIn m c) *ℤ z)) (loaded-start a c l k))))
 
 -- ---- the run
@@ -97,8 +91,7 @@ module _
         ≡ (sumTo (accountsOf m) (balanceIn m) +ℤ sumTo (accountsOf m) (λ a. pos (paidIn a m cs))) -ℤ sumTo (accountsOf m) (λ a. pos (paidOut a m cs))
     unfolding first last booksOf
     together =
-        reached-total (accountsOf m) (contractsOf m) reached (loaded-level m o s)
-        ∙ ap (λ (z : ℤ). sumTo (accountsOf m) (balanceIn m) +ℤ z)
+        reached-total (accountsOf m) (contractsOf m) reached (loaded-level m o s) ∙ ap (λ (z : ℤ). sumTo (accountsOf m) (balanceIn m) +ℤ z)
         (sumTo-ext (accountsOf m) (λ a. paid a (movesOf m cs)) (λ a. pos (paidIn a m cs) -ℤ pos (paidOut a m cs)) (λ a l. paid-is a m cs)
         ∙ sumTo-sub (accountsOf m) (λ a. pos (paidIn a m cs)) (λ a. pos (paidOut a m cs)))
         ∙ sym (+ℤ-assoc (sumTo (accountsOf m) (balanceIn m)) (sumTo (accountsOf m) (λ a. pos (paidIn a m cs))) (negℤ (sumTo (accountsOf m) (λ a. pos (paidOut a m cs)))))
@@ -118,8 +111,7 @@ module _
     unfolding netNow last
     net a c l k =
         let h = end-shape kept read-back m cs d in
-        end-sound kept read-back m cs d s .net a c (rw (h .accounts) l) (rw (h .listings) k)
-        ∙ end-position a c l k
+        end-sound kept read-back m cs d s .net a c (rw (h .accounts) l) (rw (h .listings) k) ∙ end-position a c l k
 
     -- ---- a list that ends with an accepted settlement
 
@@ -155,76 +147,60 @@ module _
       unfolding position
       last-start a c l k =
           sym (ap (λ (ts : List Trade). last .start a c +ℤ netHolding a c ts) no-trades
-          ∙ ap (λ (z : ℤ). last .start a c +ℤ z) (netHolding-nil a c)
-          ∙ +ℤ-idr (last .start a c))
-          ∙ end-position a c l k
+          ∙ ap (λ (z : ℤ). last .start a c +ℤ z) (netHolding-nil a c) ∙ +ℤ-idr (last .start a c)) ∙ end-position a c l k
 
-      last-marked : (a : ℕ) → a < accountsOf m →
-          sumTo (contractsOf m) (λ c. pos (last .multiplier c) *ℤ (pos (last .reference c) *ℤ last .start a c))
+      last-marked : (a : ℕ) → a < accountsOf m → sumTo (contractsOf m) (λ c. pos (last .multiplier c) *ℤ (pos (last .reference c) *ℤ last .start a c))
           ≡ sumTo (contractsOf m) (λ c. pos (first .multiplier c) *ℤ (pos (price c) *ℤ endNet a c))
       last-marked a l =
           sumTo-ext (contractsOf m) _ _
           (λ c k. rw (reached-multiplier (accountsOf m) (contractsOf m) reached c k, last-reference c k, last-start a c l k))
 
-      last-cash : (a : ℕ) → a < accountsOf m →
-          cash (contractsOf m) last a
+      last-cash : (a : ℕ) → a < accountsOf m → cash (contractsOf m) last a
           ≡ balanceIn m a -ℤ loadedWorth m a +ℤ (pos (paidIn a m cs) -ℤ pos (paidOut a m cs) +ℤ brought (contractsOf m) first a (tradesMade m cs))
       unfolding first
       last-cash a l =
-          reached-cash (accountsOf m) (contractsOf m) reached a l
-          ∙ ap₂ (λ (u v : ℤ). u +ℤ v) (loaded-cash m o s a l)
+          reached-cash (accountsOf m) (contractsOf m) reached a l ∙ ap₂ (λ (u v : ℤ). u +ℤ v) (loaded-cash m o s a l)
           (ap₂ (λ (u : ℤ) (ts : List Trade). u +ℤ brought (contractsOf m) first a ts) (paid-is a m cs) (made-is m cs))
 
       -- what the trades brought in, and the net holdings at the settlement prices
-      worth-is : (a : ℕ) →
-          brought (contractsOf m) first a (tradesMade m cs)
+      worth-is : (a : ℕ) → brought (contractsOf m) first a (tradesMade m cs)
           +ℤ sumTo (contractsOf m) (λ c. pos (first .multiplier c) *ℤ (pos (price c) *ℤ endNet a c))
           ≡ worth m found a (tradesMade m cs) (λ c. netIn m a c +ℤ netHolding a c (tradesMade m cs))
       unfolding brought worth first booksOf proceeds price endNet
       worth-is a =
           sym (sumTo-add (contractsOf m) (λ c. pos (first .multiplier c) *ℤ proceeds a c (tradesMade m cs))
-          (λ c. pos (first .multiplier c) *ℤ (pos (price c) *ℤ endNet a c)))
-          ∙ sumTo-ext (contractsOf m) _ _
+          (λ c. pos (first .multiplier c) *ℤ (pos (price c) *ℤ endNet a c))) ∙ sumTo-ext (contractsOf m) _ _
           (λ c k. sym (*ℤ-add (pos (first .multiplier c)) (proceeds a c (tradesMade m cs)) (pos (price c) *ℤ endNet a c)))
 
       -- "each account's balance equals opening money + accepted deposits - accepted withdrawals + what its trades sold for - what
       -- they cost + its net holding at that day's settlement price"
-      each : (a : ℕ) → a < accountsOf m →
-          balanceIn (run m cs) a
+      each : (a : ℕ) → a < accountsOf m → balanceIn (run m cs) a
           ≡ (((balanceIn m a -ℤ loadedWorth m a) +ℤ pos (paidIn a m cs)) -ℤ pos (paidOut a m cs))
           +ℤ worth m (exchangeOf (run m before)) a (tradesMade m cs) (λ c. netIn m a c +ℤ netHolding a c (tradesMade m cs))
       unfolding last booksOf found
       each a l =
-          balance-is (contractsOf m) last a no-trades
-          ∙ ap₂ (λ (u v : ℤ). u +ℤ v) (last-cash a l) (last-marked a l)
+          balance-is (contractsOf m) last a no-trades ∙ ap₂ (λ (u v : ℤ). u +ℤ v) (last-cash a l) (last-marked a l)
           ∙ regroup (balanceIn m a -ℤ loadedWorth m a) (paidIn a m cs) (paidOut a m cs) (brought (contractsOf m) first a (tradesMade m cs))
           (sumTo (contractsOf m) (λ c. pos (first .multiplier c) *ℤ (pos (price c) *ℤ endNet a c)))
           ∙ ap (λ (z : ℤ). balanceIn m a -ℤ loadedWorth m a +ℤ pos (paidIn a m cs) -ℤ pos (paidOut a m cs) +ℤ z) (worth-is a)
 
   sound-kept : (m : Memory) → Declared (m .state) → Loaded m → Sound (exchangeOf m) → (cs : List Command) → Condition3 (loaded m) m cs (run m cs)
   unfolding endNet
-  sound-kept m d o s cs = record {
-    together = together m d o s cs;
-    each = λ before e a l. each m d o s cs before e a l;
-    net = net m d o s cs;
-  }
+  sound-kept m d o s cs = record { together = together m d o s cs; each = λ before e a l. each m d o s cs before e a l; net = net m d o s cs }
 
   -- ---- a state that is not well formed
 
   nothing-moved : (m : Memory) → wellFormedMemory m ≡ false → (cs : List Command) → Condition3 (loaded m) m cs (run m cs)
   nothing-moved m w cs = record {
     together =
-        ap (λ (k : Memory). sumTo (accountsOf m) (balanceIn k)) (run-stays m w cs)
-        ∙ sym (ap₂ (λ (u v : ℤ). (total +ℤ u) -ℤ v)
+        ap (λ (k : Memory). sumTo (accountsOf m) (balanceIn k)) (run-stays m w cs) ∙ sym (ap₂ (λ (u v : ℤ). (total +ℤ u) -ℤ v)
         (sumTo-ext (accountsOf m) _ _ (λ a l. ap pos (nothing-paid-in m w a cs)) ∙ sumTo-zero (accountsOf m))
         (sumTo-ext (accountsOf m) _ _ (λ a l. ap pos (nothing-paid-out m w a cs)) ∙ sumTo-zero (accountsOf m))
         ∙ +ℤ-idr (total +ℤ pos 0) ∙ +ℤ-idr total);
     each = λ before e a l. absurd (none-accepted m w before Settle (e .accepted));
     net = λ a c l k.
-        ap (λ (k : Memory). netIn k a c) (run-stays m w cs)
-        ∙ sym (ap (λ (ts : List Trade). netIn m a c +ℤ netHolding a c ts) (nothing-traded m w cs)
-        ∙ ap (λ (z : ℤ). netIn m a c +ℤ z) (netHolding-nil a c)
-        ∙ +ℤ-idr (netIn m a c));
+        ap (λ (k : Memory). netIn k a c) (run-stays m w cs) ∙ sym (ap (λ (ts : List Trade). netIn m a c +ℤ netHolding a c ts) (nothing-traded m w cs)
+        ∙ ap (λ (z : ℤ). netIn m a c +ℤ z) (netHolding-nil a c) ∙ +ℤ-idr (netIn m a c));
   }
     where
       total : ℤ
@@ -232,16 +208,9 @@ module _
 
   -- FROM A LOADED STATE
   from-loaded : (m : Memory) → Declared (m .state) → Loaded m → (cs : List Command) → Condition3 (loaded m) m cs (run m cs)
-  from-loaded m d o cs = whether (wellFormedMemory m) refl
-    where
-      whether : (w : Bool) → wellFormedMemory m ≡ w → Condition3 (loaded m) m cs (run m cs)
-      whether true w = sound-kept m d o (formed-sound m d w) cs
-      whether false w = nothing-moved m w cs
+  from-loaded m d o cs = by-test (wellFormedMemory m) (λ w. sound-kept m d o (formed-sound m d w) cs) (λ w. nothing-moved m w cs)
 
 -- ---- an opening is the loaded state whose holdings are nothing
-
-nothing-worth : (k n : ℕ) → pos k *ℤ (pos n *ℤ pos 0) ≡ pos 0
-nothing-worth k n = simp ring (d-eq _ _ _ _ (omega arith))
 
 module _ (m : Memory) (o : Opening m) where
   pub opening-loaded : Loaded m
@@ -257,7 +226,7 @@ module _ (m : Memory) (o : Opening m) where
   unfolding loadedWorth
   opening-worth a l =
       sumTo-ext (contractsOf m) _ (λ c. pos 0)
-      (λ c k. ap (λ (z : ℤ). pos (multiplierIn m c) *ℤ (pos (referenceIn m c) *ℤ z)) (opening-net a c l k) ∙ nothing-worth (multiplierIn m c) (referenceIn m c))
+      (λ c k. ap (λ (z : ℤ). pos (multiplierIn m c) *ℤ (pos (referenceIn m c) *ℤ z)) (opening-net a c l k) ∙ simp ring (d-eq _ _ _ _ (omega arith)))
       ∙ sumTo-zero (contractsOf m)
 
   opening-money : (a : ℕ) → a < accountsOf m → loaded m .money a ≡ opened m .money a
@@ -278,8 +247,7 @@ module _ (m : Memory) (s t : Start) (money : (a : ℕ) → a < accountsOf m → 
   start-as cs m′ claim = record {
     together = claim .together;
     each = λ before e a l.
-        claim .each before e a l
-        ∙ ap₂ (λ (u v : ℤ). ((u +ℤ pos (paidIn a m cs)) -ℤ pos (paidOut a m cs)) +ℤ v) (money a l)
+        claim .each before e a l ∙ ap₂ (λ (u v : ℤ). ((u +ℤ pos (paidIn a m cs)) -ℤ pos (paidOut a m cs)) +ℤ v) (money a l)
         (worth-as (exchangeOf (run m before)) a (tradesMade m cs) l);
     net = λ a c l k. claim .net a c l k ∙ ap (λ (z : ℤ). z +ℤ netHolding a c (tradesMade m cs)) (held a c l k);
   }

@@ -2,12 +2,9 @@
 -- the net holding at the settlement price at the end and at the reference at the start. Each leg, open or close, moves the
 -- value of the day (closing profit so far and the open lots at the settlement price) by its lots times the difference of its
 -- price and the settlement price. Assumes nothing.
-use mathlib.Core.Path.{_≡_, refl, sym, _∙_}
-use mathlib.Core.Bool.{true, false}
-use mathlib.Core.List.{List, [], _∷_, _++_}
-use Prim.Native.Nat.{ℕ, _+_, _*_, _-_, _≤_, min}
-use native.Mathlib.Omega.{arith}
 use lib.IntN.{ℤ, pos, negℤ, _+ℤ_, _-ℤ_, _*ℤ_, +ℤ-assoc, +ℤ-idl, +ℤ-idr}
+use Rattle.laws.specs.Logic.{true, false, List, [], _∷_, _++_, _≡_, refl, sym, _∙_}
+use Rattle.laws.specs.Numbers.{ℕ, _+_, _-_, _*_, _≤_, min, arith}
 use Rattle.laws.specs.Ring.{split, d-eq, d-inj, ring}
 use Rattle.laws.specs.Sums.{sumOf, sumOf-append}
 use Rattle.rules.specs.Article32.{lotsIn}
@@ -19,8 +16,7 @@ use Rattle.accounting.specs.DayLegs.{flow, net, netOpen, Covered, AllCov
 pub gain-append : (p : ℕ) (bs cs : List Batch) → gain p (bs ++ cs) ≡ gain p bs +ℤ gain p cs
 unfolding gain
 gain-append p [] cs = rw (split (gain p cs)) (simp ring (d-eq _ _ _ _ (omega arith)))
-gain-append p (b ∷ bs) cs =
-    rw (gain-append p bs cs) (rw (split (gain p bs), split (gain p cs)) (simp ring (d-eq _ _ _ _ (omega arith))))
+gain-append p (b ∷ bs) cs = rw (gain-append p bs cs) (rw (split (gain p bs), split (gain p cs)) (simp ring (d-eq _ _ _ _ (omega arith))))
 
 pub gain-opened : (s : ℕ) (bs : List Batch) (p n : ℕ) → gain s (opened bs p n) ≡ gain s bs +ℤ (pos s -ℤ pos p) *ℤ pos n
 unfolding gain
@@ -54,14 +50,12 @@ unfoldable pub legValue : ℕ → Leg → ℤ
 legValue s (leg true close p n) = (pos p -ℤ pos s) *ℤ pos n
 legValue s (leg false close p n) = (pos s -ℤ pos p) *ℤ pos n
 
-close-long : (C F R Q O : ℤ) (p s n : ℕ) → F +ℤ R ≡ Q +ℤ (pos p -ℤ pos s) *ℤ pos n →
-    C +ℤ F +ℤ (R -ℤ O) ≡ C +ℤ (Q -ℤ O) +ℤ (pos p -ℤ pos s) *ℤ pos n
+close-long : (C F R Q O : ℤ) (p s n : ℕ) → F +ℤ R ≡ Q +ℤ (pos p -ℤ pos s) *ℤ pos n → C +ℤ F +ℤ (R -ℤ O) ≡ C +ℤ (Q -ℤ O) +ℤ (pos p -ℤ pos s) *ℤ pos n
 close-long C F R Q O p s n e =
     rw (split C, split F, split R, split Q, split O)
     (simp ring (d-eq _ _ _ _ (omega (arith, d-inj _ _ _ _ (simp ring at (rw (split F, split R, split Q) at e))))))
 
-close-short : (C F R Q O : ℤ) (p s n : ℕ) → F +ℤ R ≡ Q +ℤ (pos p -ℤ pos s) *ℤ pos n →
-    C -ℤ F +ℤ (O -ℤ R) ≡ C +ℤ (O -ℤ Q) +ℤ (pos s -ℤ pos p) *ℤ pos n
+close-short : (C F R Q O : ℤ) (p s n : ℕ) → F +ℤ R ≡ Q +ℤ (pos p -ℤ pos s) *ℤ pos n → C -ℤ F +ℤ (O -ℤ R) ≡ C +ℤ (O -ℤ Q) +ℤ (pos s -ℤ pos p) *ℤ pos n
 close-short C F R Q O p s n e =
     rw (split C, split F, split R, split Q, split O)
     (simp ring (d-eq _ _ _ _ (omega (arith, d-inj _ _ _ _ (simp ring at (rw (split F, split R, split Q) at e))))))
@@ -89,16 +83,13 @@ legs-value : (s : ℕ) (d : Day) (ls : List Leg) → AllCovered d ls → valueAt
 unfolding afterLegs AllCovered legsValue
 legs-value s d [] c = sym (+ℤ-idr (valueAt s d))
 legs-value s d (l ∷ ls) c =
-    legs-value s (afterDayLeg d l) ls (c .1)
-    ∙ rw (leg-value s d l (c .0)) (+ℤ-assoc (valueAt s d) (legValue s l) (legsValue s ls))
+    legs-value s (afterDayLeg d l) ls (c .1) ∙ rw (leg-value s d l (c .0)) (+ℤ-assoc (valueAt s d) (legValue s l) (legsValue s ls))
 
 legsValue-is : (s : ℕ) (ls : List Leg) → legsValue s ls ≡ flow ls +ℤ pos s *ℤ net ls
 unfolding legsValue flow net legValue
 legsValue-is s [] = simp ring (d-eq _ _ _ _ (omega arith))
-legsValue-is s (leg true close p n ∷ ls) =
-    rw (legsValue-is s ls) (rw (split (flow ls), split (net ls)) (simp ring (d-eq _ _ _ _ (omega arith))))
-legsValue-is s (leg false close p n ∷ ls) =
-    rw (legsValue-is s ls) (rw (split (flow ls), split (net ls)) (simp ring (d-eq _ _ _ _ (omega arith))))
+legsValue-is s (leg true close p n ∷ ls) = rw (legsValue-is s ls) (rw (split (flow ls), split (net ls)) (simp ring (d-eq _ _ _ _ (omega arith))))
+legsValue-is s (leg false close p n ∷ ls) = rw (legsValue-is s ls) (rw (split (flow ls), split (net ls)) (simp ring (d-eq _ _ _ _ (omega arith))))
 
 -- THE LAW OF ARTICLE 32
 pub day-profit : (ref s long short : ℕ) (ls : List Leg) → AllCovered (dayStart ref long short) ls →
@@ -107,8 +98,7 @@ pub day-profit : (ref s long short : ℕ) (ls : List Leg) → AllCovered (daySta
 unfolding valueAt holdingGain dayStart gain
 day-profit ref s long short ls c = legs-value s (dayStart ref long short) ls c ∙ rw (legsValue-is s ls) (at (flow ls) (net ls))
   where
-    at : (f n : ℤ) →
-        valueAt s (dayStart ref long short) +ℤ (f +ℤ pos s *ℤ n)
+    at : (f n : ℤ) → valueAt s (dayStart ref long short) +ℤ (f +ℤ pos s *ℤ n)
         ≡ f +ℤ pos s *ℤ (pos long -ℤ pos short +ℤ n) -ℤ pos ref *ℤ (pos long -ℤ pos short)
     at f n = rw (split f, split n) (simp ring (d-eq _ _ _ _ (omega arith)))
 
@@ -128,8 +118,7 @@ unfolding sumOf otherLots
 lots-other n [] = omega arith
 lots-other n (b ∷ bs) = let e = lots-other (n - b .lots) bs in omega arith
 
-pub lots-start : (ref long short : ℕ) →
-    (lotsIn (dayStart ref long short .long) ≡ long) × (lotsIn (dayStart ref long short .short) ≡ short)
+pub lots-start : (ref long short : ℕ) → (lotsIn (dayStart ref long short .long) ≡ long) × (lotsIn (dayStart ref long short .short) ≡ short)
 unfolding sumOf dayStart
 lots-start ref long short = (omega arith, omega arith)
 
@@ -139,18 +128,12 @@ legNet : Leg → ℤ
 legNet (leg true close p n) = negℤ (pos n)
 legNet (leg false close p n) = pos n
 
-less : (a b n : ℕ) → n ≤ a → pos (a - n) -ℤ pos b ≡ pos a -ℤ pos b +ℤ negℤ (pos n)
-less a b n h = simp ring (d-eq _ _ _ _ (omega arith))
-
-less-short : (a b n : ℕ) → n ≤ b → pos a -ℤ pos (b - n) ≡ pos a -ℤ pos b +ℤ pos n
-less-short a b n h = simp ring (d-eq _ _ _ _ (omega arith))
-
 leg-net : (d : Day) (l : Leg) → Covered d l → netOpen (afterDayLeg d l) ≡ netOpen d +ℤ legNet l
 unfolding netOpen afterDayLeg Covered legNet
 leg-net d (leg false false p n) c = rw (lots-opened (d .long) p n) (simp ring (d-eq _ _ _ _ (omega arith)))
 leg-net d (leg true false p n) c = rw (lots-opened (d .short) p n) (simp ring (d-eq _ _ _ _ (omega arith)))
-leg-net d (leg true true p n) c = rw (lots-other n (d .long)) (less (lotsIn (d .long)) (lotsIn (d .short)) n c)
-leg-net d (leg false true p n) c = rw (lots-other n (d .short)) (less-short (lotsIn (d .long)) (lotsIn (d .short)) n c)
+leg-net d (leg true true p n) c = rw (lots-other n (d .long)) (simp ring (d-eq _ _ _ _ (omega arith)))
+leg-net d (leg false true p n) c = rw (lots-other n (d .short)) (simp ring (d-eq _ _ _ _ (omega arith)))
 
 net-cons : (l : Leg) (ls : List Leg) → net (l ∷ ls) ≡ legNet l +ℤ net ls
 unfolding net legNet
@@ -160,9 +143,7 @@ net-cons (leg false close p n) ls = refl
 pub day-net : (d : Day) (ls : List Leg) → AllCovered d ls → netOpen (afterLegs d ls) ≡ netOpen d +ℤ net ls
 unfolding afterLegs AllCovered net
 day-net d [] c = sym (+ℤ-idr (netOpen d))
-day-net d (l ∷ ls) c =
-    day-net (afterDayLeg d l) ls (c .1)
-    ∙ rw (leg-net d l (c .0), net-cons l ls) (+ℤ-assoc (netOpen d) (legNet l) (net ls))
+day-net d (l ∷ ls) c = day-net (afterDayLeg d l) ls (c .1) ∙ rw (leg-net d l (c .0), net-cons l ls) (+ℤ-assoc (netOpen d) (legNet l) (net ls))
 
 -- ---- days in two parts
 

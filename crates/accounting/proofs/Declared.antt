@@ -1,14 +1,8 @@
 -- The by-value arrays of a state have the places of their types, before and after every command; so each account in use has a
 -- holding in each contract in use. Assumes nothing.
-use mathlib.Core.Bool.{Bool, true, false}
-use mathlib.Core.List.{List, [], _∷_, map}
-use mathlib.Core.Path.{_≡_, refl, sym, ap, _∙_}
-use Prim.Native.Nat.{ℕ, zero, suc, _<_, _≤_, min}
-use native.Mathlib.Nat.{le-of-suc-le-suc, not-suc-le-zero}
-use native.Mathlib.Omega.{arith}
-use borrow.Author.Tests.{leb-true}
-use lib.Dec.{leb}
-use lib.ListN.{length, getD, take, drop, length-append, length-take, length-drop, length-map}
+use Rattle.laws.specs.Logic.{Bool, true, false, List, [], _∷_, map, _≡_, refl, sym, ap, _∙_}
+use Rattle.laws.specs.Numbers.{ℕ, zero, suc, _<_, _≤_, min, le-of-suc-le-suc, not-suc-le-zero, arith, leb-true, leb, length, getD, take, drop, length-append}
+use Rattle.laws.specs.Numbers.{length-drop, length-map, length-take}
 use Rattle.laws.specs.Choice.{all, both-true}
 use Rattle.laws.specs.Chains.{all-passed}
 use Rattle.rules.specs.Bounds.{within, maxContracts, maxAccounts, maxTrades, maxResting}
@@ -16,9 +10,7 @@ use Rattle.rules.specs.Exchange.{Exchange, Listing, noAccount, accountAt}
 use Rattle.rules.specs.Kinds.{kindOf}
 use Rattle.rules.specs.Memory.{Memory, Declared, inUse, exchangeOf, putFirst, putAccounts, putState, put, countsInRange, hasRoom, wellFormedMemory, written, stepIn, respond}
 use Rattle.rules.specs.WellFormed.{wellFormedContents}
-use Rattle.rules.specs.declared.Account.{Account}
-use Rattle.rules.specs.declared.Command.{Command}
-use Rattle.rules.specs.declared.State.{State}
+use Rattle.rules.specs.declared.{Account.Account, Command.Command, State.State}
 use Rattle.rules.proofs.InUse.{account-in-use, contracts-in-use}
 use Rattle.rules.proofs.Stages.{decided, Each}
 use Rattle.accounting.specs.Shape.{Shaped}
@@ -52,8 +44,7 @@ module _ (m : Memory) (d : Declared (m .state)) where
   unfolding exchangeOf
   accounts-in-use =
       length-map (take (m .state .accountcount) (m .state .accounts)) (inUse (m .state .contractcount))
-      ∙ length-take (m .state .accountcount) (m .state .accounts)
-      ∙ ap (λ (n : ℕ). min (m .state .accountcount) n) (d .accounts)
+      ∙ length-take (m .state .accountcount) (m .state .accounts) ∙ ap (λ (n : ℕ). min (m .state .accountcount) n) (d .accounts)
 
   pub counted-shaped : Counts (m .state) → Shaped (exchangeOf m)
   unfolding Shaped accountAt
@@ -61,8 +52,7 @@ module _ (m : Memory) (d : Declared (m .state)) where
       let k : a < m .state .accountcount = omega (arith, accounts-in-use, l) in
       ap (λ (v : Account). length (v .holdings)) (account-in-use m a k)
       ∙ length-take (m .state .contractcount) (accountAt (m .state .accounts) a .holdings)
-      ∙ omega (arith, d .holdings a (omega (arith, accounts-in-use, l)), few .contracts)
-      ∙ sym (contracts-in-use m)
+      ∙ omega (arith, d .holdings a (omega (arith, accounts-in-use, l)), few .contracts) ∙ sym (contracts-in-use m)
 
   pub declared-shaped : wellFormedMemory m ≡ true → Shaped (exchangeOf m)
   declared-shaped w = counted-shaped (counts m w)
@@ -97,8 +87,7 @@ pub record Fits (x : Exchange) : Type 0 where
 
 module _ (m : Memory) (d : Declared (m .state)) (x : Exchange) (f : Fits x) where
   array-kept : {A : Type 0} (g : Listing → A) (room : List A) → length room ≡ maxContracts → length (putFirst (map g (x .listings)) room) ≡ maxContracts
-  array-kept g room e =
-      length-putFirst (map g (x .listings)) room (omega (arith, length-map (x .listings) g, f .listings)) ∙ e
+  array-kept g room e = length-putFirst (map g (x .listings)) room (omega (arith, length-map (x .listings) g, f .listings)) ∙ e
 
   pub put-declared : Declared (put m x .state)
   unfolding put putState accountAt

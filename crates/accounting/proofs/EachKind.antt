@@ -1,10 +1,8 @@
 -- WHAT EACH KIND OWES OF SHAPE AND MONEY: its stages keep the shape of the state, and the last of them has made its move. Assumes
 -- nothing.
-use mathlib.Core.Bool.{Bool, true, false}
-use mathlib.Core.Path.{_≡_, refl}
-use Prim.Native.Nat.{_+_}
-use lib.Dec.{eqb}
-use Rattle.laws.specs.Choice.{pick}
+use Rattle.laws.specs.Logic.{true, _≡_, refl}
+use Rattle.laws.specs.Numbers.{_+_, eqb}
+use Rattle.laws.specs.Choice.{pick, by-test}
 use Rattle.rules.specs.Change.{asked}
 use Rattle.rules.specs.Exchange.{Exchange, placeOf}
 use Rattle.rules.specs.Kinds.{nothing, kindOf, codeOf, decide, lastOf, step}
@@ -59,9 +57,4 @@ module _ (x : Exchange) where
   pub step-moves : replays x ≡ true → Shaped x → (command : Command) →
       Makes x (pick (eqb (codeOf x command) 0) (kindOf x command .moves) nothing) (step x command)
   unfolding step decide
-  step-moves r h command = by-acceptance (eqb (codeOf x command) 0) refl
-    where
-      by-acceptance : (accepted : Bool) → eqb (codeOf x command) 0 ≡ accepted →
-          Makes x (pick (eqb (codeOf x command) 0) (kindOf x command .moves) nothing) (lastOf x (decide x command .stages))
-      by-acceptance true e = rw e (kind-moves r h command)
-      by-acceptance false e = rw e (nothing-moves x)
+  step-moves r h command = by-test (eqb (codeOf x command) 0) (λ e. rw e (kind-moves r h command)) (λ e. rw e (nothing-moves x))

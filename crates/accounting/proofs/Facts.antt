@@ -1,23 +1,13 @@
 -- What a well-formed state says, as far as money needs it: trades between accounts in use, prices and terms in range, starting
 -- lots within the limit, a replay that holds. Assumes nothing.
-use mathlib.Core.Bool.{true, not}
-use mathlib.Core.List.{List, [], _∷_}
-use mathlib.Core.Path.{_≡_}
-use Prim.Native.Nat.{ℕ, _+_, _<_, _≤_}
-use native.Mathlib.Nat.{div-add-mod'}
-use native.Mathlib.Omega.{arith}
-use borrow.Author.Tests.{leb-true, ltb-true}
-use lib.Dec.{leb, ltb, eqb}
-use lib.ListN.{length}
+use Rattle.laws.specs.Logic.{true, not, List, [], _∷_, _≡_}
+use Rattle.laws.specs.Numbers.{ℕ, _+_, _<_, _≤_, div-add-mod', arith, leb-true, ltb-true, eqb, leb, ltb, length}
 use Rattle.laws.specs.Choice.{all, allOf, all-at, allOf-at, both-true}
 use Rattle.laws.specs.Chains.{Passed, all-passed}
 use Rattle.rules.specs.Bounds.{within, onTick, dayLow, dayHigh, allowedToday, maxPrice, maxLots}
 use Rattle.rules.specs.Exchange.{Exchange, Listing, noListing, listingAt, holdingAt, restingOpens, restingCloses}
 use Rattle.rules.specs.WellFormed.{countersInRange, contractInRange, markInRange, rangesKept, queuesSorted, orderInRange, ordersInRange, allNumbers, allStamps, usedOnce, listingQuoted, restingInRange, tradeInRange, replays, heldInRange, holdingInRange, holdingsInRange, balanceInRange, wellFormedContents}
-use Rattle.rules.specs.declared.Contract.{Contract}
-use Rattle.rules.specs.declared.Holding.{Holding}
-use Rattle.rules.specs.declared.Order.{Order}
-use Rattle.rules.specs.declared.Trade.{Trade}
+use Rattle.rules.specs.declared.{Contract.Contract, Holding.Holding, Order.Order, Trade.Trade}
 use Rattle.rules.proofs.Terms.{Terms, contract-terms}
 use Rattle.accounting.specs.Money.{AllKnown}
 
@@ -56,14 +46,7 @@ trade-facts x t h =
     ∷ allowedToday (listingAt x (t .contract) .contract) (t .price) ∷ within 1 maxLots (t .lots)
     ∷ leb (t .buyclose) 1 ∷ leb (t .sellclose) 1 ∷ []) h in
     let lots = both-true (leb 1 (t .lots)) (leb (t .lots) maxLots) (p .1 .1 .1 .1 .1 .1 .1 .1 .1 .0) in
-    record {
-      contract = ltb-true _ _ (p .0);
-      buyer = ltb-true _ _ (p .1 .0);
-      seller = ltb-true _ _ (p .1 .1 .0);
-      price = allowed-price _ (t .price) (p .1 .1 .1 .1 .1 .1 .1 .1 .0);
-      lots-low = leb-true 1 (t .lots) (lots .0);
-      lots-high = leb-true (t .lots) maxLots (lots .1);
-    }
+    search (ltb-true, allowed-price, leb-true) depth 12
 
 -- ---- the state
 

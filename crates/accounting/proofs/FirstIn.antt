@@ -1,16 +1,10 @@
 -- Document 01's rule is one of the pairings of ticket 12, so there is always one: each closed lot with the open lot at its own
 -- place, as open lots stand by the time at which they came. In a well-formed state that lot came before the close, and the
 -- closing and holding parts are the rule's. Assumes nothing.
-use mathlib.Core.Bool.{Bool, true, false}
-use mathlib.Core.List.{List, [], _∷_, _++_, append-assoc, append-nil}
-use mathlib.Core.Path.{_≡_, refl, sym, ap, ap₂, _∙_}
-use Prim.Native.Nat.{ℕ, zero, suc, _+_, _-_, _<_, _≤_, min}
-use native.Mathlib.Nat.{le-of-suc-le-suc, not-suc-le-zero}
-use native.Mathlib.Omega.{arith}
-use borrow.Author.Tests.{leb-true, leb-false}
-use lib.Dec.{leb}
 use lib.IntN.{ℤ, pos, negℤ, _+ℤ_, _-ℤ_, _*ℤ_, +ℤ-assoc, +ℤ-idl, +ℤ-idr}
-use lib.ListN.{length, getD, drop, replicate, length-append, length-drop, length-replicate}
+use Rattle.laws.specs.Logic.{Bool, true, false, List, [], _∷_, _++_, append-nil, append-assoc, _≡_, refl, sym, ap, ap₂, _∙_}
+use Rattle.laws.specs.Numbers.{ℕ, zero, suc, _+_, _-_, _<_, _≤_, min, le-of-suc-le-suc, not-suc-le-zero, arith, leb-true, leb-false, leb, length, getD, drop}
+use Rattle.laws.specs.Numbers.{replicate, length-append, length-drop, length-replicate}
 use Rattle.laws.specs.Choice.{pick}
 use Rattle.laws.specs.Ring.{split, d-eq, d-inj, ring}
 use Rattle.laws.specs.Sums.{sumOf, sumTo, sumTo-first}
@@ -204,8 +198,7 @@ closeGain-long p (b ∷ bs) = ap (λ (z : ℤ). (pos p -ℤ pos (b .price)) *ℤ
 closeGain-short : (p : ℕ) (bs : List Batch) → negℤ (gain p bs) ≡ closeGain short p bs
 unfolding gain closeGain gained
 closeGain-short p [] = refl
-closeGain-short p (b ∷ bs) =
-    rw (← closeGain-short p bs) (rw (split (gain p bs)) (simp ring (d-eq _ _ _ _ (omega arith))))
+closeGain-short p (b ∷ bs) = rw (← closeGain-short p bs) (rw (split (gain p bs)) (simp ring (d-eq _ _ _ _ (omega arith))))
 
 nothing : (g z : ℤ) → g *ℤ pos 0 +ℤ z ≡ z
 nothing g z = rw (split g, split z) (simp ring (d-eq _ _ _ _ (omega arith)))
@@ -215,8 +208,7 @@ one g k z = rw (split g, split z) (simp ring (d-eq _ _ _ _ (omega arith)))
 
 module _ (side : Side) (p : ℕ) where
   -- k lots at one price, of which n are closed, or as many as there are
-  gains-batch : (k n q : ℕ) (os cs : List ℕ) →
-      gains side (replicate k q ++ os) (replicate n p ++ cs)
+  gains-batch : (k n q : ℕ) (os cs : List ℕ) → gains side (replicate k q ++ os) (replicate n p ++ cs)
       ≡ gained side q p *ℤ pos (min n k) +ℤ gains side (replicate (k - n) q ++ os) (replicate (n - k) p ++ cs)
   unfolding gains
   gains-batch zero n q os cs =
@@ -253,8 +245,7 @@ module _ (side : Side) (p : ℕ) where
       let u : 0 - b .lots ≡ 0 = omega arith in
       rw (e, u, none-other bs)
 
-  gains-close : (n : ℕ) (bs : List Batch) (os cs : List ℕ) → n ≤ lotsIn bs →
-      gains side (singly bs ++ os) (replicate n p ++ cs)
+  gains-close : (n : ℕ) (bs : List Batch) (os cs : List ℕ) → n ≤ lotsIn bs → gains side (singly bs ++ os) (replicate n p ++ cs)
       ≡ closeGain side p (firstLots n bs) +ℤ gains side (singly (otherLots n bs) ++ os) cs
   unfolding singly closeGain firstLots otherLots sumOf
   gains-close n [] os cs h = let e : n ≡ 0 = omega arith in rw e (sym (+ℤ-idl (gains side os cs)))
@@ -269,8 +260,7 @@ module _ (side : Side) (p : ℕ) where
       left : List Batch
       left = otherLots (n - b .lots) bs
 
-      by-first-batch : (t : Bool) → leb n (b .lots) ≡ t →
-          gains side (singly bs ++ os) (replicate (n - b .lots) p ++ cs)
+      by-first-batch : (t : Bool) → leb n (b .lots) ≡ t → gains side (singly bs ++ os) (replicate (n - b .lots) p ++ cs)
           ≡ closeGain side p (firstLots (n - b .lots) bs) +ℤ gains side (singly left ++ os) cs →
           g +ℤ gains side (replicate (b .lots - n) (b .price) ++ (singly bs ++ os)) (replicate (n - b .lots) p ++ cs)
           ≡ g +ℤ closeGain side p (firstLots (n - b .lots) bs) +ℤ gains side (replicate (b .lots - n) (b .price) ++ singly left ++ os) cs
@@ -322,8 +312,7 @@ side-closing : (side : Side) (reference held : ℕ) (ls : List Leg) → Before (
     ≡ fromHere side (record { price = reference; lots = held } ∷ []) ls
 unfolding fromHere singly openLots closedLots
 side-closing side reference held ls b =
-    closing-gains side (openLots side reference held ls) (closedLots side ls) b
-    ∙ ap₂ (λ (o c : List ℕ). gains side o c)
+    closing-gains side (openLots side reference held ls) (closedLots side ls) b ∙ ap₂ (λ (o c : List ℕ). gains side o c)
     (prices-replicate held (record { price = reference; time = 0 }) (lotsOfLegs (opens side) 1 ls)
     ∙ ap₂ (λ (h o : List ℕ). h ++ o) (sym (append-nil (replicate held reference))) (prices-legs (opens side) 1 ls))
     (prices-legs (closes side) 1 ls)

@@ -1,16 +1,9 @@
 -- THE DAY'S PROFIT IS ARTICLE 32'S FOUR SUMS (rules, specs/Article32). The lots open on a side are its line of lots, those of the start of
 -- the day and then the opens, without those that closes took from its front; a close gains on a batch of the line as many lots as the two
 -- have in common. Assumes nothing.
-use mathlib.Core.Bool.{Bool, true, false, not, _&&_}
-use mathlib.Core.List.{List, [], _∷_, _++_, append-assoc, append-nil}
-use mathlib.Core.Path.{_≡_, refl, sym, ap, ap₂, _∙_}
-use Prim.Native.Nat.{ℕ, _+_, _-_, _≤_, min, max}
-use native.Mathlib.Nat.{add-assoc, zero-add}
-use native.Mathlib.Omega.{arith}
-use borrow.Author.Tests.{leb-true, leb-false}
-use lib.Dec.{leb}
 use lib.IntN.{ℤ, pos, negℤ, _+ℤ_, _-ℤ_, _*ℤ_, +ℤ-assoc, +ℤ-idl, +ℤ-idr}
-use lib.ListN.{length}
+use Rattle.laws.specs.Logic.{Bool, true, false, not, _&&_, List, [], _∷_, _++_, append-nil, append-assoc, _≡_, refl, sym, ap, ap₂, _∙_}
+use Rattle.laws.specs.Numbers.{ℕ, _+_, _-_, _≤_, min, max, zero-add, add-assoc, arith, leb-true, leb-false, leb, length}
 use Rattle.laws.specs.Choice.{pick}
 use Rattle.laws.specs.Ring.{split, d-eq, ring, *ℤ-add}
 use Rattle.laws.specs.Sums.{sumOf, sumTo, sumTo-ext, sumTo-add}
@@ -111,8 +104,7 @@ first-among value a n b [] = refl
 first-among value a n b (c ∷ bs) =
     let g : a - b - c .lots ≡ a - (b + c .lots) = omega arith in
     ap₂ (λ (k : ℕ) (z : ℤ). value (c .price) *ℤ pos k +ℤ z) (taken a n b (c .lots) (leb b a) refl)
-    (ap₂ (λ (j k : ℕ). worth value (firstLots j (otherLots k bs))) (left a n b (c .lots) (leb b a) refl) g
-    ∙ first-among value a n (b + c .lots) bs)
+    (ap₂ (λ (j k : ℕ). worth value (firstLots j (otherLots k bs))) (left a n b (c .lots) (leb b a) refl) g ∙ first-among value a n (b + c .lots) bs)
 
 -- what is left of a line, the first n lots taken
 other-among : (value : ℕ → ℤ) (n b : ℕ) (bs : List Batch) →
@@ -132,8 +124,7 @@ module _ (part : ℕ → ℕ → ℕ → ℤ) where
   Σover-append b [] cs = let e : b + 0 ≡ b = omega arith in rw e (sym (+ℤ-idl (Σover b cs part)))
   Σover-append b (c ∷ bs) cs =
       ap (λ (z : ℤ). part b (c .price) (c .lots) +ℤ z)
-      (Σover-append (b + c .lots) bs cs
-      ∙ ap (λ (k : ℕ). Σover (b + c .lots) bs part +ℤ Σover k cs part) (add-assoc b (c .lots) (lotsIn bs)))
+      (Σover-append (b + c .lots) bs cs ∙ ap (λ (k : ℕ). Σover (b + c .lots) bs part +ℤ Σover k cs part) (add-assoc b (c .lots) (lotsIn bs)))
       ∙ sym (+ℤ-assoc (part b (c .price) (c .lots)) (Σover (b + c .lots) bs part) (Σover (b + (c .lots + lotsIn bs)) cs part))
 
   Σover-ext : (other : ℕ → ℕ → ℕ → ℤ) → ((b p n : ℕ) → part b p n ≡ other b p n) → (b : ℕ) (bs : List Batch) → Σover b bs part ≡ Σover b bs other
@@ -171,8 +162,7 @@ one-close : (value : ℕ → ℤ) (gone n : ℕ) (line more : List Batch) → go
 one-close value gone n line more h =
     let e : n ≡ gone + n - max 0 gone = omega arith in
     let g : gone ≡ gone - 0 = omega arith in
-    ap₂ (λ (j k : ℕ). worth value (firstLots j (otherLots k line))) e g
-    ∙ first-among value gone n 0 line
+    ap₂ (λ (j k : ℕ). worth value (firstLots j (otherLots k line))) e g ∙ first-among value gone n 0 line
     ∙ sym (+ℤ-idr (Σover 0 line (λ b q m. value q *ℤ pos (among b m gone n))))
     ∙ ap (λ (z : ℤ). Σover 0 line (λ b q m. value q *ℤ pos (among b m gone n)) +ℤ z)
     (sym (nothing-behind value gone n (0 + lotsIn line) more (omega arith)))
@@ -429,8 +419,4 @@ module _ (x : Exchange) (w : wellFormedContents x ≡ true) (a : ℕ) where
   -- CLOSING PROFIT AND HOLDING PROFIT ARE ARTICLE 32'S, two sums each
   pub by-article-32 : ByArticle32 x a
   unfolding closingProfit holdingProfit
-  by-article-32 =
-      record {
-        closing = over-contracts (λ c. dayOf x a c .closing) closedHistory closedToday contract-closing;
-        holding = over-contracts (λ c. holdingGain (settlementPrice x c) (dayOf x a c)) heldHistory heldToday contract-holding;
-      }
+  by-article-32 = search (over-contracts, contract-closing, contract-holding) depth 12

@@ -1,11 +1,9 @@
 -- Article 32 as a reader looks for it: in a well-formed state, closing and holding profit of an account in a contract (before
 -- the multiplier) are what its trades sold for, less what they cost, plus its net holding now at the settlement price, less its
 -- net holding at the start at the reference. Assumes nothing.
-use mathlib.Core.Path.{_≡_, sym, ap, ap₂, _∙_}
-use Prim.Native.Nat.{ℕ, _<_}
 use lib.IntN.{ℤ, pos, _+ℤ_, _-ℤ_, _*ℤ_}
-use lib.ListN.{length}
-use mathlib.Core.Bool.{true}
+use Rattle.laws.specs.Logic.{true, _≡_, sym, ap, ap₂, _∙_}
+use Rattle.laws.specs.Numbers.{ℕ, _<_, length}
 use Rattle.rules.specs.Condition3.{sales, costs, netHolding}
 use Rattle.rules.specs.Exchange.{Exchange, listingAt, holdingAt}
 use Rattle.rules.specs.Settlement.{legs, dayOf, holdingGain, settlementPrice}
@@ -20,8 +18,7 @@ use Rattle.accounting.proofs.Trades.{flow-legs, net-legs}
 
 module _ (x : Exchange) (r : replays x ≡ true) (a c : ℕ) where
   -- at any price s, with the net holding at the start and what was bought less sold today
-  pub day-money : (s : ℕ) →
-      dayOf x a c .closing +ℤ holdingGain s (dayOf x a c)
+  pub day-money : (s : ℕ) → dayOf x a c .closing +ℤ holdingGain s (dayOf x a c)
       ≡ proceeds a c (x .trades) +ℤ pos s *ℤ (netAtStart x a c +ℤ netHolding a c (x .trades)) -ℤ pos (listingAt x c .contract .reference) *ℤ netAtStart x a c
   unfolding dayOf netAtStart
   day-money s =
@@ -35,8 +32,7 @@ module _ (x : Exchange) (r : replays x ≡ true) (a c : ℕ) where
   net-moves p =
       let h = day-holdings x r a c p in
       let s = lots-start (listingAt x c .contract .reference) (holdingAt (x .accounts) a c .startlong) (holdingAt (x .accounts) a c .startshort) in
-      ap₂ (λ (l k : ℕ). pos l -ℤ pos k) (sym (h .0)) (sym (h .1))
-      ∙ day-net _ (legs a c (x .trades)) (day-covered x r a c)
+      ap₂ (λ (l k : ℕ). pos l -ℤ pos k) (sym (h .0)) (sym (h .1)) ∙ day-net _ (legs a c (x .trades)) (day-covered x r a c)
       ∙ ap₂ (λ (l k : ℕ). pos l -ℤ pos k +ℤ net (legs a c (x .trades))) (s .0) (s .1)
       ∙ ap (λ (n : ℤ). netAtStart x a c +ℤ n) (net-legs a c (x .trades))
 

@@ -1,12 +1,8 @@
 -- Two lists of commands, the second from what the first leaves: their claims give that of the list joined. What the first list leaves is
 -- a loaded state, whose cash is that of the start with what was paid and traded since. Assumes nothing.
-use mathlib.Core.Bool.{true}
-use mathlib.Core.List.{List, [], _∷_, _++_, append-assoc, append-nil}
-use mathlib.Core.Path.{_≡_, refl, sym, ap, ap₂, _∙_}
-use Prim.Native.Nat.{ℕ, _+_, _<_}
-use native.Mathlib.Omega.{arith}
 use lib.IntN.{ℤ, pos, _+ℤ_, _-ℤ_, _*ℤ_, +ℤ-assoc}
-use lib.ListN.{length}
+use Rattle.laws.specs.Logic.{true, List, [], _∷_, _++_, append-nil, append-assoc, _≡_, refl, sym, ap, ap₂, _∙_}
+use Rattle.laws.specs.Numbers.{ℕ, _+_, _<_, arith, length}
 use Rattle.laws.specs.Ring.{split, d-eq, ring}
 use Rattle.laws.specs.Sums.{sumOf, sumOf-append, sumTo, sumTo-ext, sumTo-add}
 use Rattle.rules.specs.Condition3.{run, isAccepted, movesOf, inTo, outOf, paidIn, paidOut, made, tradesMade, netHolding, balanceIn, accountsOf, contractsOf, netIn, multiplierIn, loaded, loadedWorth, Loaded, worth, EndsSettled, Condition3}
@@ -14,9 +10,8 @@ use Rattle.rules.specs.Exchange.{Exchange, accountAt, holdingAt}
 use Rattle.rules.specs.Kinds.{Move, step}
 use Rattle.rules.specs.Memory.{Memory, exchangeOf, Declared, wellFormedMemory, respond}
 use Rattle.rules.specs.Settlement.{settlementPrice}
-use Rattle.rules.specs.declared.Command.{Command}
+use Rattle.rules.specs.declared.{Command.Command, Trade.Trade}
 use Rattle.rules.specs.declared.Command.the-variants.{Settle}
-use Rattle.rules.specs.declared.Trade.{Trade}
 use Rattle.accounting.specs.Books.{booksOf, Reached, cash, brought}
 use Rattle.accounting.specs.Money.{proceeds}
 use Rattle.accounting.proofs.BooksLaws.{reached-cash, reached-multiplier}
@@ -71,19 +66,16 @@ last-of (x ∷ as′) b bs (y ∷ before) c e =
 
 -- ---- integers
 
-added : (k q : ℕ) (s t n u v : ℤ) →
-    pos k *ℤ s +ℤ pos k *ℤ (t +ℤ pos q *ℤ (n +ℤ u +ℤ v)) ≡ pos k *ℤ (s +ℤ t +ℤ pos q *ℤ (n +ℤ (u +ℤ v)))
+added : (k q : ℕ) (s t n u v : ℤ) → pos k *ℤ s +ℤ pos k *ℤ (t +ℤ pos q *ℤ (n +ℤ u +ℤ v)) ≡ pos k *ℤ (s +ℤ t +ℤ pos q *ℤ (n +ℤ (u +ℤ v)))
 added k q s t n u v = rw (split s, split t, split n, split u, split v) (simp ring (d-eq _ _ _ _ (omega arith)))
 
 totals-joined : (b x u y v : ℤ) → b +ℤ x -ℤ u +ℤ y -ℤ v ≡ b +ℤ (x +ℤ y) -ℤ (u +ℤ v)
 totals-joined b x u y v = rw (split b, split x, split u, split y, split v) (simp ring (d-eq _ _ _ _ (omega arith)))
 
-balance-joined : (b t w : ℤ) (i o j u : ℕ) →
-    b +ℤ (pos i -ℤ pos o +ℤ t) +ℤ pos j -ℤ pos u +ℤ w ≡ b +ℤ pos (i + j) -ℤ pos (o + u) +ℤ (t +ℤ w)
+balance-joined : (b t w : ℤ) (i o j u : ℕ) → b +ℤ (pos i -ℤ pos o +ℤ t) +ℤ pos j -ℤ pos u +ℤ w ≡ b +ℤ pos (i + j) -ℤ pos (o + u) +ℤ (t +ℤ w)
 balance-joined b t w i o j u = rw (split b, split t, split w) (simp ring (d-eq _ _ _ _ (omega arith)))
 
-sum-parts : (n : ℕ) (f g h : ℕ → ℕ) → ((a : ℕ) → f a ≡ g a + h a) →
-    sumTo n (λ a. pos (f a)) ≡ sumTo n (λ a. pos (g a)) +ℤ sumTo n (λ a. pos (h a))
+sum-parts : (n : ℕ) (f g h : ℕ → ℕ) → ((a : ℕ) → f a ≡ g a + h a) → sumTo n (λ a. pos (f a)) ≡ sumTo n (λ a. pos (g a)) +ℤ sumTo n (λ a. pos (h a))
 sum-parts n f g h e = sumTo-ext n _ (λ a. pos (g a) +ℤ pos (h a)) (λ a l. ap pos (e a)) ∙ sumTo-add n (λ a. pos (g a)) (λ a. pos (h a))
 
 -- ---- a balance and a net holding of an exchange
@@ -109,18 +101,12 @@ module _
   same-contracts : contractsOf (run m as′) ≡ contractsOf m
   same-contracts = end-shape kept read-back m as′ d .listings
 
-  same-multiplier : (c : ℕ) → c < contractsOf m → multiplierIn (run m as′) c ≡ multiplierIn m c
-  unfolding booksOf
-  same-multiplier c k = reached-multiplier (accountsOf m) (contractsOf m) reached c k
-
   -- the money that the second list starts from
-  carried-money : (a : ℕ) → a < accountsOf m →
-      balanceIn (run m as′) a -ℤ loadedWorth (run m as′) a
+  carried-money : (a : ℕ) → a < accountsOf m → balanceIn (run m as′) a -ℤ loadedWorth (run m as′) a
       ≡ balanceIn m a -ℤ loadedWorth m a +ℤ (pos (paidIn a m as′) -ℤ pos (paidOut a m as′) +ℤ brought (contractsOf m) (booksOf (exchangeOf m)) a (tradesMade m as′))
   carried-money a l =
       sym (loaded-cash (run m as′) o₁ (end-sound kept read-back m as′ d s) a (rw same-accounts l))
-      ∙ ap (λ (n : ℕ). cash n (booksOf (exchangeOf (run m as′))) a) same-contracts
-      ∙ reached-cash (accountsOf m) (contractsOf m) reached a l
+      ∙ ap (λ (n : ℕ). cash n (booksOf (exchangeOf (run m as′))) a) same-contracts ∙ reached-cash (accountsOf m) (contractsOf m) reached a l
       ∙ ap₂ (λ (u v : ℤ). u +ℤ v) (loaded-cash m o s a l)
       (ap₂ (λ (u : ℤ) (ts : List Trade). u +ℤ brought (contractsOf m) (booksOf (exchangeOf m)) a ts) (paid-is a m as′) (made-is m as′))
 
@@ -148,8 +134,7 @@ module _
     together-joined =
         rw same-accounts at (two .together)
         ∙ ap (λ (z : ℤ). z +ℤ sumTo (accountsOf m) (λ a. pos (paidIn a between (b ∷ bs))) -ℤ sumTo (accountsOf m) (λ a. pos (paidOut a between (b ∷ bs))))
-        (one .together)
-        ∙ totals-joined (sumTo (accountsOf m) (balanceIn m))
+        (one .together) ∙ totals-joined (sumTo (accountsOf m) (balanceIn m))
         (sumTo (accountsOf m) (λ a. pos (paidIn a m as′))) (sumTo (accountsOf m) (λ a. pos (paidOut a m as′)))
         (sumTo (accountsOf m) (λ a. pos (paidIn a between (b ∷ bs)))) (sumTo (accountsOf m) (λ a. pos (paidOut a between (b ∷ bs))))
         ∙ sym (ap₂ (λ (u v : ℤ). sumTo (accountsOf m) (balanceIn m) +ℤ u -ℤ v)
@@ -167,10 +152,8 @@ module _
     net-joined : (a c : ℕ) → a < accountsOf m → c < contractsOf m → netIn m′ a c ≡ netIn m a c +ℤ netHolding a c (tradesMade m cs)
     unfolding between ts us
     net-joined a c l k =
-        two .net a c (rw same-accounts l) (rw same-contracts k)
-        ∙ ap (λ (z : ℤ). z +ℤ netHolding a c us) (one .net a c l k)
-        ∙ +ℤ-assoc (netIn m a c) (netHolding a c ts) (netHolding a c us)
-        ∙ ap (λ (z : ℤ). netIn m a c +ℤ z) (sym (net-traded a c))
+        two .net a c (rw same-accounts l) (rw same-contracts k) ∙ ap (λ (z : ℤ). z +ℤ netHolding a c us) (one .net a c l k)
+        ∙ +ℤ-assoc (netIn m a c) (netHolding a c ts) (netHolding a c us) ∙ ap (λ (z : ℤ). netIn m a c +ℤ z) (sym (net-traded a c))
 
     -- what the first list's trades brought in, and the worth of the second list's, are the worth of all the trades
     worth-joined : (last : Exchange) (a : ℕ) → a < accountsOf m →
@@ -178,8 +161,7 @@ module _
         ≡ worth m last a (tradesMade m cs) (λ c. netIn m a c +ℤ netHolding a c (tradesMade m cs))
     unfolding worth brought booksOf between ts proceeds
     worth-joined last a l =
-        ap (λ (n : ℕ). sumTo (contractsOf m) first +ℤ sumTo n second) same-contracts
-        ∙ sym (sumTo-add (contractsOf m) first second)
+        ap (λ (n : ℕ). sumTo (contractsOf m) first +ℤ sumTo n second) same-contracts ∙ sym (sumTo-add (contractsOf m) first second)
         ∙ sumTo-ext (contractsOf m) _ _ contract-joined
       where
         first : ℕ → ℤ
@@ -191,15 +173,14 @@ module _
         contract-joined : (c : ℕ) → c < contractsOf m → first c +ℤ second c
             ≡ pos (multiplierIn m c) *ℤ (proceeds a c (tradesMade m cs) +ℤ pos (settlementPrice last c) *ℤ (netIn m a c +ℤ netHolding a c (tradesMade m cs)))
         contract-joined c k =
-            rw (same-multiplier c k, one .net a c l k, net-traded a c, proceeds-traded a c)
+            rw (reached-multiplier (accountsOf m) (contractsOf m) reached c k, one .net a c l k, net-traded a c, proceeds-traded a c)
             (added (multiplierIn m c) (settlementPrice last c) (proceeds a c ts) (proceeds a c us) (netIn m a c) (netHolding a c ts) (netHolding a c us))
 
     -- the second claim's sum, from the money that it starts from
     carriedOn : ℕ → ℤ → ℤ → ℤ
     carriedOn a z w = z +ℤ pos (paidIn a between (b ∷ bs)) -ℤ pos (paidOut a between (b ∷ bs)) +ℤ w
 
-    each-joined : (before : List Command) → EndsSettled m cs before → (a : ℕ) → a < accountsOf m →
-        balanceIn m′ a
+    each-joined : (before : List Command) → EndsSettled m cs before → (a : ℕ) → a < accountsOf m → balanceIn m′ a
         ≡ (((balanceIn m a -ℤ loadedWorth m a) +ℤ pos (paidIn a m cs)) -ℤ pos (paidOut a m cs))
         +ℤ worth m (exchangeOf (run m before)) a (tradesMade m cs) (λ c. netIn m a c +ℤ netHolding a c (tradesMade m cs))
     unfolding between cs ts us carriedOn

@@ -1,14 +1,8 @@
 -- Numbers sent to different numbers, and what that says of a pairing: by every leg's time there are as many lots to close as are
 -- closed, so that each close finds its lots. Nothing is asked of the state. Assumes nothing.
-use mathlib.Core.Bool.{Bool, true, false, not}
-use mathlib.Core.List.{List, [], _∷_, _++_}
-use mathlib.Core.Path.{_≡_, refl, sym, ap, ap₂, _∙_}
-use Prim.Native.Nat.{ℕ, zero, suc, _+_, _*_, _<_, _≤_}
-use native.Mathlib.Omega.{arith}
-use borrow.Author.Tests.{eqb-true, ne-eqb, lt-ltb, le-ltb, ltb-true}
-use lib.Dec.{eqb, ltb}
 use lib.IntN.{ℤ, pos, _+ℤ_, +ℤ-idl, +ℤ-idr}
-use lib.ListN.{length, getD, replicate}
+use Rattle.laws.specs.Logic.{Bool, true, false, not, List, [], _∷_, _++_, _≡_, refl, sym, ap, ap₂, _∙_}
+use Rattle.laws.specs.Numbers.{ℕ, zero, suc, _+_, _*_, _<_, _≤_, arith, eqb-true, ltb-true, ne-eqb, lt-ltb, le-ltb, eqb, ltb, length, getD, replicate}
 use Rattle.laws.specs.Choice.{pick, both, all, all-true}
 use Rattle.laws.specs.Ring.{split, d-eq, ring}
 use Rattle.laws.specs.Sums.{sumOf, sumOf-append, sumOf-replicate, sumTo, sumTo-ext, sumTo-add, sumTo-at, sumTo-first}
@@ -98,8 +92,7 @@ closed-early open′ closed of m u =
     let total : pos (countTo k (λ i. f (of i))) +ℤ pos (countTo n rest) ≡ pos (earlier u open′) =
     ap₂ (λ (y z : ℤ). y +ℤ z) (sym (sumTo-count k (λ i. f (of i))))
     (sym (sumTo-count n rest) ∙ sumTo-ext n _ _ (λ j b. picked (unpaired of k j) (f j)))
-    ∙ met-and-others n of (λ j. pos (f j)) k (m .among) (λ i j b d e. omega (arith, m .once i j b d e))
-    ∙ earlier-sumTo u open′ in
+    ∙ met-and-others n of (λ j. pos (f j)) k (m .among) (λ i j b d e. omega (arith, m .once i j b d e)) ∙ earlier-sumTo u open′ in
     let e : countTo k (λ i. f (of i)) + countTo n rest ≡ earlier u open′ = pos-inj _ _ total in
     let c : countTo k (λ i. early (suc u) (getD closed i noLot)) ≡ earlier (suc u) closed =
     pos-inj _ _ (sym (sumTo-count k (λ i. early (suc u) (getD closed i noLot))) ∙ earlier-sumTo (suc u) closed) in

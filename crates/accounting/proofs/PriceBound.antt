@@ -1,12 +1,6 @@
 -- The settlement price of a well-formed state is at most the largest price. Assumes nothing.
-use mathlib.Core.Bool.{Bool, true, false}
-use mathlib.Core.List.{List, [], _∷_}
-use mathlib.Core.Path.{_≡_}
-use Prim.Native.Nat.{ℕ, _*_, _/_, _<_, _≤_}
-use native.Mathlib.Nat.{mul-le-mul-right, div-mul-le-self, div-le-of-le-mul}
-use native.Mathlib.Omega.{arith}
-use lib.Dec.{eqb}
-use lib.ListN.{length}
+use Rattle.laws.specs.Logic.{Bool, true, false, List, [], _∷_, _≡_}
+use Rattle.laws.specs.Numbers.{ℕ, _*_, _/_, _<_, _≤_, mul-le-mul-right, div-mul-le-self, div-le-of-le-mul, arith, eqb, length}
 use Rattle.laws.specs.Choice.{pick, allOf, both-true}
 use Rattle.laws.specs.Sums.{sumOf}
 use Rattle.rules.specs.Bounds.{maxPrice}
@@ -14,9 +8,7 @@ use Rattle.rules.specs.Exchange.{Exchange, listingAt}
 use Rattle.rules.specs.Matching.{middle, tradedLots}
 use Rattle.rules.specs.Settlement.{tradesIn, tradedValue, weightedPrice, quotedPrice, priceFrom, settlementPrice}
 use Rattle.rules.specs.WellFormed.{orderInRange, tradeInRange, wellFormedContents}
-use Rattle.rules.specs.declared.Contract.{Contract}
-use Rattle.rules.specs.declared.Order.{Order}
-use Rattle.rules.specs.declared.Trade.{Trade}
+use Rattle.rules.specs.declared.{Contract.Contract, Order.Order, Trade.Trade}
 use Rattle.accounting.proofs.Facts.{facts, trade-facts, order-price}
 
 unfoldable TradesTo : ℕ → List Trade → Type 0

@@ -1,15 +1,8 @@
 -- A day's profit or loss of one account, closing and holding profit together, is within 3 x 10^15. `wellFormedContents` leaves
 -- the numbers of contracts and of trades to the counts, so these are hypotheses here. Assumes nothing.
-use mathlib.Core.Bool.{Bool, true, false, not, _&&_}
-use mathlib.Core.List.{List, [], _∷_, _++_}
-use mathlib.Core.Path.{_≡_, refl, subst, _∙_}
-use Prim.Native.Nat.{ℕ, zero, suc, _+_, _*_, _<_, _≤_}
-use native.Mathlib.Nat.{mul-le-mul-left, mul-suc}
-use native.Mathlib.Omega.{arith}
-use borrow.Author.Tests.{eqb-true, ne-eqb}
-use lib.Dec.{eqb}
 use lib.IntN.{ℤ, pos, natAbs, _+ℤ_, _*ℤ_, *ℤ-comm}
-use lib.ListN.{length}
+use Rattle.laws.specs.Logic.{Bool, true, false, not, _&&_, List, [], _∷_, _++_, _≡_, refl, subst, _∙_}
+use Rattle.laws.specs.Numbers.{ℕ, zero, suc, _+_, _*_, _<_, _≤_, mul-suc, mul-le-mul-left, arith, eqb-true, ne-eqb, eqb, length}
 use Rattle.laws.specs.Bound.{Within, within-le, within-zero, within-add, within-times, within-abs, abs-within}
 use Rattle.laws.specs.Choice.{pick, allOf, both-true}
 use Rattle.laws.specs.Ring.{*ℤ-add}

@@ -1,9 +1,8 @@
 -- A quote keeps the shape of the state and makes the buy's trades, then the sell's, and no other move of money. Assumes nothing.
-use mathlib.Core.List.{List, [], _++_, append-assoc}
-use mathlib.Core.Path.{refl, sym, ap, _∙_}
-use Prim.Native.Nat.{_+_}
+use Rattle.laws.specs.Logic.{List, [], _++_, append-assoc, refl, sym, ap, _∙_}
+use Rattle.laws.specs.Numbers.{_+_}
 use Rattle.rules.specs.Exchange.{Exchange, placeOf}
-use Rattle.rules.specs.Kinds.{makes, nothing, lastOf}
+use Rattle.rules.specs.Kinds.{makes, lastOf}
 use Rattle.rules.specs.Quote.{Offered, buyEntered, buyOf, quoteTrades, quoted, sellEntered, sellOf, withBuy, withSell, withoutQuote}
 use Rattle.rules.specs.declared.Trade.{Trade}
 use Rattle.rules.proofs.Stages.{Each}
@@ -39,14 +38,10 @@ module _ (x : Exchange) (q : Offered) where
   unfolding quoted
   quoted-shape = (removed-shape, (buy-shape, (sell-shape, tt)))
 
-  removed-moves : Makes x nothing (withoutQuote x q)
-  unfolding withoutQuote
-  removed-moves = same-listing x (placeOf (q .contract)) _ refl refl
-
   buy-moves : Makes x (makes (buyEntered x q .trades)) (withBuy x q)
-  unfolding withBuy
+  unfolding withBuy withoutQuote
   buy-moves =
-      makes-more x (withoutQuote x q) (withBuy x q) [] (buyEntered x q .trades) removed-shape removed-moves
+      makes-more x (withoutQuote x q) (withBuy x q) [] (buyEntered x q .trades) removed-shape (same-listing x (placeOf (q .contract)) _ refl refl)
       (entered-moves (withoutQuote x q) (buyOf q) (buyEntered x q) (withoutQuote x q .next + 1))
 
   pub quoted-moves : Makes x (makes (quoteTrades x q)) (lastOf x (quoted x q .stages))

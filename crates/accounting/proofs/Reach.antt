@@ -1,11 +1,8 @@
 -- How far a day's profit reaches: with prices to M, at most M for each lot that was held at the start or opened during the day,
 -- in closing and holding profit together. Assumes nothing.
-use mathlib.Core.Bool.{Bool, true, false}
-use mathlib.Core.List.{List, [], _∷_}
-use mathlib.Core.Path.{_≡_, subst, _∙_}
-use Prim.Native.Nat.{ℕ, _+_, _*_, _-_, _≤_}
-use native.Mathlib.Omega.{arith}
 use lib.IntN.{_+ℤ_}
+use Rattle.laws.specs.Logic.{Bool, true, false, List, [], _∷_, _≡_, subst, _∙_}
+use Rattle.laws.specs.Numbers.{ℕ, _+_, _-_, _*_, _≤_, arith}
 use Rattle.laws.specs.Bound.{Within, within-le, within-zero, within-add, within-sub, within-diff, within-times}
 use Rattle.laws.specs.Sums.{sumOf}
 use Rattle.rules.specs.Article32.{lotsIn}
@@ -22,8 +19,7 @@ PricedTo M (b ∷ bs) = (b .price ≤ M) × PricedTo M bs
 gain-within : (M p : ℕ) (bs : List Batch) → p ≤ M → PricedTo M bs → Within (M * lotsIn bs) (gain p bs)
 unfolding gain sumOf PricedTo
 gain-within M p [] h q = within-le (omega arith) within-zero
-gain-within M p (b ∷ bs) h q =
-    within-le (omega arith) (within-add (within-times (b .lots) (within-diff h (q .0))) (gain-within M p bs h (q .1)))
+gain-within M p (b ∷ bs) h q = within-le (omega arith) (within-add (within-times (b .lots) (within-diff h (q .0))) (gain-within M p bs h (q .1)))
 
 first-priced : (M n : ℕ) (bs : List Batch) → PricedTo M bs → PricedTo M (firstLots n bs)
 unfolding firstLots PricedTo
@@ -127,8 +123,7 @@ module _ (M reference long short : ℕ) (ls : List Leg) (r : reference ≤ M) (q
   reach : Reach M (openedLots ls + (long + short)) (afterLegs (dayStart reference long short) ls)
   reach = reach-legs M (long + short) (dayStart reference long short) ls q c (reach-start M reference long short r)
 
-  pub profit-within : (s : ℕ) → s ≤ M →
-      Within (M * (openedLots ls + (long + short)))
+  pub profit-within : (s : ℕ) → s ≤ M → Within (M * (openedLots ls + (long + short)))
       (afterLegs (dayStart reference long short) ls .closing +ℤ holdingGain s (afterLegs (dayStart reference long short) ls))
   unfolding holdingGain
   profit-within s h =

@@ -1,23 +1,15 @@
 -- The two replays of a day's trades agree: the one over holdings, by which a state is well formed, and the one over batches of
 -- lots, by which profit is worked out. Where the first never goes below zero each close of the second finds its lots, and both
 -- leave the same lots open. Assumes nothing.
-use mathlib.Core.Bool.{Bool, true, false, not, _&&_, false≢true}
-use mathlib.Core.List.{List, [], _∷_, _++_}
-use mathlib.Core.Path.{_≡_, refl, sym, _∙_}
-use Prim.Native.Nat.{ℕ, zero, suc, _+_, _-_, _≤_}
-use native.Mathlib.Omega.{arith}
-use borrow.Author.Tests.{eqb-true, eqb-false, leb-true}
-use lib.Dec.{leb, eqb}
-use lib.ListN.{getD}
+use Rattle.laws.specs.Logic.{Bool, true, false, not, _&&_, false≢true, List, [], _∷_, _++_, _≡_, refl, sym, _∙_}
+use Rattle.laws.specs.Numbers.{ℕ, zero, suc, _+_, _-_, _≤_, arith, eqb-true, eqb-false, leb-true, eqb, leb, getD}
 use Rattle.laws.specs.Choice.{pick, both-true}
 use Rattle.rules.specs.Article32.{lotsIn}
 use Rattle.rules.specs.Exchange.{Exchange, noHolding, listingAt, accountAt, holdingAt}
 use Rattle.rules.specs.Holdings.{afterLeg, bookLeg, bookBuyer, bookTrade, bookTrades, legCovered, neverBelowZero, startOfDay, sameLots, sameHoldings}
 use Rattle.rules.specs.Settlement.{leg, Day, dayStart, only, legs, afterDayLeg, afterLegs, dayOf}
 use Rattle.rules.specs.WellFormed.{replays}
-use Rattle.rules.specs.declared.Account.{Account}
-use Rattle.rules.specs.declared.Holding.{Holding}
-use Rattle.rules.specs.declared.Trade.{Trade}
+use Rattle.rules.specs.declared.{Account.Account, Holding.Holding, Trade.Trade}
 use Rattle.accounting.specs.DayLegs.{Covered, AllCovered}
 use Rattle.accounting.specs.Shape.{Placed}
 use Rattle.accounting.proofs.Booking.{booked-here, booked-elsewhere, booked-or-none, booked-placed, start-holding, start-placed}
@@ -46,14 +38,10 @@ module _ (R : ℕ → ℕ → Type 0) (k : Kept R) where
   after-leg : (h : Holding) (d : Day) (sell opens : Bool) (close p n : ℕ) → eqb close 0 ≡ opens → Lots R h d →
       Lots R (afterLeg h sell close n) (afterDayLeg d (leg sell (not opens) p n))
   unfolding afterLeg afterDayLeg
-  after-leg h d true true close p n e l =
-      rw e (record { long = l .long; short = rw (lots-opened (d .short) p n) (k .more _ _ n (l .short)) })
-  after-leg h d true false close p n e l =
-      rw e (record { long = rw (lots-other n (d .long)) (k .less _ _ n (l .long)); short = l .short })
-  after-leg h d false true close p n e l =
-      rw e (record { long = rw (lots-opened (d .long) p n) (k .more _ _ n (l .long)); short = l .short })
-  after-leg h d false false close p n e l =
-      rw e (record { long = l .long; short = rw (lots-other n (d .short)) (k .less _ _ n (l .short)) })
+  after-leg h d true true close p n e l = rw e (record { long = l .long; short = rw (lots-opened (d .short) p n) (k .more _ _ n (l .short)) })
+  after-leg h d true false close p n e l = rw e (record { long = rw (lots-other n (d .long)) (k .less _ _ n (l .long)); short = l .short })
+  after-leg h d false true close p n e l = rw e (record { long = rw (lots-opened (d .long) p n) (k .more _ _ n (l .long)); short = l .short })
+  after-leg h d false false close p n e l = rw e (record { long = l .long; short = rw (lots-other n (d .short)) (k .less _ _ n (l .short)) })
 
   -- the leg of account u in contract e, as the replay of account a in contract c sees it; `Seen` is what is known of the accounts
   module _ (a c : ℕ) (Seen : List Account → Type 0)
@@ -168,8 +156,7 @@ module _ (a c : ℕ) where
 -- ---- both leave the same lots open
 
 module _ (accounts : List Account) (a c : ℕ) (p : Placed accounts a c) where
-  pub replay-lots : (ts : List Trade) (reference : ℕ) →
-      Lots (λ x y. x ≡ y) (holdingAt (bookTrades (startOfDay accounts) ts) a c)
+  pub replay-lots : (ts : List Trade) (reference : ℕ) → Lots (λ x y. x ≡ y) (holdingAt (bookTrades (startOfDay accounts) ts) a c)
       (afterLegs (dayStart reference (holdingAt accounts a c .startlong) (holdingAt accounts a c .startshort)) (legs a c ts))
   replay-lots ts reference =
       all-trades (λ x y. x ≡ y) kept-≡ a c (λ s. Placed s a c)
@@ -190,8 +177,7 @@ same-lots (h ∷ hs) [] c t = absurd (false≢true t)
 same-lots (h ∷ hs) (k ∷ ks) zero t =
     let b = both-true (eqb (h .long) (k .long)) (eqb (h .short) (k .short)) (both-true _ (sameLots hs ks) t .0) in
     (eqb-true (h .long) (k .long) (b .0), eqb-true (h .short) (k .short) (b .1))
-same-lots (h ∷ hs) (k ∷ ks) (suc c) t =
-    same-lots hs ks c (both-true (eqb (h .long) (k .long) && eqb (h .short) (k .short)) (sameLots hs ks) t .1)
+same-lots (h ∷ hs) (k ∷ ks) (suc c) t = same-lots hs ks c (both-true (eqb (h .long) (k .long) && eqb (h .short) (k .short)) (sameLots hs ks) t .1)
 
 pub same-holdings : (as′ bs : List Account) (a c : ℕ) → sameHoldings as′ bs ≡ true →
     (holdingAt as′ a c .long ≡ holdingAt bs a c .long) × (holdingAt as′ a c .short ≡ holdingAt bs a c .short)
@@ -204,8 +190,7 @@ same-holdings (x ∷ as′) (b ∷ bs) (suc a) c t = same-holdings as′ bs a c 
 
 -- ---- in a state whose trades replay, each close finds its lots, and the lots open are the holdings now
 
-pub replays-parts : (x : Exchange) → replays x ≡ true →
-    (neverBelowZero (startOfDay (x .accounts)) (x .trades) ≡ true)
+pub replays-parts : (x : Exchange) → replays x ≡ true → (neverBelowZero (startOfDay (x .accounts)) (x .trades) ≡ true)
     × (sameHoldings (bookTrades (startOfDay (x .accounts)) (x .trades)) (x .accounts) ≡ true)
 unfolding replays
 replays-parts x r = both-true (neverBelowZero (startOfDay (x .accounts)) (x .trades)) _ r

@@ -1,21 +1,15 @@
 -- A run of commands: what it keeps of its states, and the moves of money by which it goes from one to the next; and a run in
 -- parts. The first rests on two facts about one command, `kept` and `read-back`, which are parameters of the last section. Assumes
 -- nothing else.
-use mathlib.Core.Bool.{Bool, true, false, _&&_, false≢true}
-use mathlib.Core.List.{List, [], _∷_, _++_}
-use mathlib.Core.Path.{_≡_, refl, sym, ap, ap₂, _∙_}
-use Prim.Native.Nat.{ℕ, _+_, _<_}
-use native.Mathlib.Omega.{arith}
-use borrow.Author.Tests.{eq-eqb}
-use lib.Dec.{eqb}
 use lib.IntN.{ℤ, pos, negℤ, _+ℤ_, _-ℤ_, +ℤ-idl, +ℤ-idr}
-use lib.ListN.{length}
-use Rattle.laws.specs.Choice.{pick, both-true}
+use Rattle.laws.specs.Logic.{Bool, true, false, _&&_, false≢true, List, [], _∷_, _++_, _≡_, refl, sym, ap, ap₂, _∙_}
+use Rattle.laws.specs.Numbers.{ℕ, _+_, _<_, arith, eq-eqb, eqb, length}
+use Rattle.laws.specs.Choice.{pick, both-true, by-test}
 use Rattle.laws.specs.Ring.{d-eq, ring}
 use Rattle.laws.specs.Sums.{sumOf}
 use Rattle.rules.specs.Condition3.{run, isAccepted, moveOf, movesOf, inTo, outOf, paidIn, paidOut, madeBy, made, tradesMade, accountsOf, contractsOf}
 use Rattle.rules.specs.Exchange.{Exchange}
-use Rattle.rules.specs.Kinds.{Move, paysIn, paysOut, makes, settles, nothing, codeOf, step, kindOf}
+use Rattle.rules.specs.Kinds.{Move, paysIn, paysOut, makes, settles, codeOf, step}
 use Rattle.rules.specs.Memory.{Memory, exchangeOf, Declared, countsInRange, hasRoom, wellFormedMemory, stepIn, respond}
 use Rattle.rules.specs.WellFormed.{wellFormedContents}
 use Rattle.rules.specs.declared.Command.{Command}
@@ -58,9 +52,6 @@ in-wellformed m w = both-true (countsInRange (m .state) && hasRoom m) (wellForme
 
 -- ---- payments of moves
 
-less-none : (x y u v : ℕ) → pos x -ℤ pos y +ℤ (pos u -ℤ pos v) ≡ pos (x + u) -ℤ pos (y + v)
-less-none x y u v = simp ring (d-eq _ _ _ _ (omega arith))
-
 paid-move : (a : ℕ) (v : Move) → paidBy a v ≡ pos (inTo a v) -ℤ pos (outOf a v)
 unfolding paidBy inTo outOf
 paid-move a (paysIn account amount) = by-account (eqb account a)
@@ -79,9 +70,7 @@ paid-move a (settles price) = refl
 paid-moves : (a : ℕ) (vs : List Move) → paid a vs ≡ pos (sumOf (inTo a) vs) -ℤ pos (sumOf (outOf a) vs)
 unfolding paid sumOf
 paid-moves a [] = refl
-paid-moves a (v ∷ vs) =
-    ap₂ (λ (y z : ℤ). y +ℤ z) (paid-move a v) (paid-moves a vs)
-    ∙ less-none (inTo a v) (outOf a v) (sumOf (inTo a) vs) (sumOf (outOf a) vs)
+paid-moves a (v ∷ vs) = ap₂ (λ (y z : ℤ). y +ℤ z) (paid-move a v) (paid-moves a vs) ∙ simp ring (d-eq _ _ _ _ (omega arith))
 
 pub paid-is : (a : ℕ) (m : Memory) (cs : List Command) → paid a (movesOf m cs) ≡ pos (paidIn a m cs) -ℤ pos (paidOut a m cs)
 unfolding paidIn paidOut
@@ -163,29 +152,22 @@ module _
     (read-back : (m : Memory) (c : Command) → wellFormedMemory m ≡ true → exchangeOf (respond m c .memory) ≡ step (exchangeOf m) c) where
   module _ (m : Memory) (c : Command) (d : Declared (m .state)) where
     one-shape : SameShape (exchangeOf m) (next m c)
-    one-shape = by-wellformed (wellFormedMemory m) refl
-      where
-        by-wellformed : (w : Bool) → wellFormedMemory m ≡ w → SameShape (exchangeOf m) (next m c)
-        by-wellformed true w = rw (read-back m c w) (step-shape (exchangeOf m) c)
-        by-wellformed false w = rw (stays-so m c w) (same-shape (exchangeOf m))
+    one-shape =
+        by-test (wellFormedMemory m) (λ w. rw (read-back m c w) (step-shape (exchangeOf m) c))
+        (λ w. rw (stays-so m c w) (same-shape (exchangeOf m)))
 
     next-sound : Sound (exchangeOf m) → Sound (next m c)
-    next-sound s = by-wellformed (wellFormedMemory m) refl
-      where
-        by-wellformed : (w : Bool) → wellFormedMemory m ≡ w → Sound (next m c)
-        by-wellformed true w = formed-sound (respond m c .memory) (declared-kept m c d) (kept m c w)
-        by-wellformed false w = rw (stays-so m c w) s
+    next-sound s =
+        by-test (wellFormedMemory m) (λ w. formed-sound (respond m c .memory) (declared-kept m c d) (kept m c w))
+        (λ w. rw (stays-so m c w) s)
 
     pub one-move : Makes (exchangeOf m) (moveOf m c) (next m c)
     unfolding moveOf
-    one-move = by-wellformed (wellFormedMemory m) refl
-      where
-        by-wellformed : (w : Bool) → wellFormedMemory m ≡ w →
-            Makes (exchangeOf m) (pick (isAccepted m c) (kindOf (exchangeOf m) c .moves) nothing) (next m c)
-        by-wellformed true w =
-            rw (read-back m c w, accepted-is m c w)
-            (step-moves (exchangeOf m) (facts (exchangeOf m) (in-wellformed m w) .replay) (declared-shaped m d w) c)
-        by-wellformed false w = rw (stays-so m c w, never-accepted m c w) (nothing-moves (exchangeOf m))
+    one-move =
+        by-test (wellFormedMemory m)
+        (λ w. rw (read-back m c w, accepted-is m c w)
+        (step-moves (exchangeOf m) (facts (exchangeOf m) (in-wellformed m w) .replay) (declared-shaped m d w) c))
+        (λ w. rw (stays-so m c w, never-accepted m c w) (nothing-moves (exchangeOf m)))
 
   pub end-declared : (m : Memory) (cs : List Command) → Declared (m .state) → Declared (run m cs .state)
   unfolding run

@@ -1,14 +1,8 @@
 -- What commands do makes the moves of money that the rules give them: the books after it are the books before it after the
 -- move. Assumes nothing.
-use mathlib.Core.Bool.{Bool, true, false}
-use mathlib.Core.List.{List, [], append-nil}
-use mathlib.Core.Path.{_≡_, refl, sym, ap, subst, _∙_}
-use Prim.Native.Nat.{ℕ, _+_, _<_}
-use borrow.Author.Tests.{eqb-true, eqb-false}
-use lib.Dec.{eqb}
 use lib.IntN.{ℤ, pos, negℤ, _+ℤ_, _-ℤ_, _*ℤ_, +ℤ-idr}
-use lib.ListN.{length, getD, set, List·getD-map}
-use lib.Seq.{getD-set-same, getD-set-other}
+use Rattle.laws.specs.Logic.{Bool, true, false, List, append-nil, _≡_, refl, sym, ap, subst, _∙_}
+use Rattle.laws.specs.Numbers.{ℕ, _+_, _<_, eqb-true, eqb-false, eqb, length, getD, set, List·getD-map, getD-set-same, getD-set-other}
 use Rattle.laws.specs.Choice.{pick}
 use Rattle.laws.specs.Ring.{*ℤ-add}
 use Rattle.laws.specs.Sums.{sumTo, sumTo-ext, sumTo-add}
@@ -22,10 +16,7 @@ use Rattle.rules.specs.Matching.{Entered}
 use Rattle.rules.specs.Settlement.{dayOf, holdingGain, settlementPrice, closingProfit, holdingProfit, carriedHolding, settledAccount, settledContract, settledListing, settled}
 use Rattle.rules.specs.Step.{withListing, withTrades, withBalance, paid, listingAfter, exchangeAfter, listingMatched, exchangeMatched}
 use Rattle.rules.specs.WellFormed.{replays}
-use Rattle.rules.specs.declared.Account.{Account}
-use Rattle.rules.specs.declared.Holding.{Holding}
-use Rattle.rules.specs.declared.NewOrder.{NewOrder}
-use Rattle.rules.specs.declared.Trade.{Trade}
+use Rattle.rules.specs.declared.{Account.Account, Holding.Holding, NewOrder.NewOrder, Trade.Trade}
 use Rattle.accounting.specs.Books.{booksOf, marked, paidTo, after, Same, Level}
 use Rattle.accounting.specs.Money.{netAtStart, netNow, AllKnown}
 use Rattle.accounting.specs.Shape.{Shaped}
@@ -64,8 +55,7 @@ nothing-moves x = record {
 
 -- ---- money is paid
 
-paid-balance : (accounts : List Account) (u a : ℕ) (z : ℤ) → a < length accounts →
-    accountAt accounts a .balance +ℤ pick (eqb u a) z (pos 0)
+paid-balance : (accounts : List Account) (u a : ℕ) (z : ℤ) → a < length accounts → accountAt accounts a .balance +ℤ pick (eqb u a) z (pos 0)
     ≡ accountAt (set accounts u (withBalance (accountAt accounts u) (accountAt accounts u .balance +ℤ z))) a .balance
 unfolding accountAt
 paid-balance accounts u a z l = by-account (eqb u a) refl
@@ -141,14 +131,12 @@ module _ (x : Exchange) (r : replays x ≡ true) (shaped : Shaped x) where
   settled-account a l = getD-tabulate (length (x .accounts)) a (settledAccount x) noAccount l
 
   -- the two profits together are what the contracts are marked
-  profit-marked : (a : ℕ) →
-      closingProfit x a +ℤ holdingProfit x a
+  profit-marked : (a : ℕ) → closingProfit x a +ℤ holdingProfit x a
       ≡ sumTo (length (x .listings)) (λ c. pos (listingAt x c .contract .multiplier) *ℤ marked (booksOf x) (settlementPrice x c) a c)
   unfolding closingProfit holdingProfit marked booksOf
   profit-marked a =
       sym (sumTo-add (length (x .listings)) (λ c. pos (listingAt x c .contract .multiplier) *ℤ dayOf x a c .closing)
-      (λ c. pos (listingAt x c .contract .multiplier) *ℤ holdingGain (settlementPrice x c) (dayOf x a c)))
-      ∙ sumTo-ext (length (x .listings)) _ _
+      (λ c. pos (listingAt x c .contract .multiplier) *ℤ holdingGain (settlementPrice x c) (dayOf x a c))) ∙ sumTo-ext (length (x .listings)) _ _
       (λ c l. sym (*ℤ-add (pos (listingAt x c .contract .multiplier)) (dayOf x a c .closing) (holdingGain (settlementPrice x c) (dayOf x a c)))
       ∙ ap (λ (z : ℤ). pos (listingAt x c .contract .multiplier) *ℤ z) (day-money x r a c (settlementPrice x c)))
 
@@ -160,14 +148,12 @@ module _ (x : Exchange) (r : replays x ≡ true) (shaped : Shaped x) where
       sumTo-ext (length (x .accounts)) (λ a. closingProfit x a +ℤ holdingProfit x a) _ (λ a l. profit-marked a)
       ∙ marked-nothing (length (x .accounts)) (length (x .listings)) (booksOf x) known level (settlementPrice x)
 
-  settled-balance : (a : ℕ) → a < length (x .accounts) →
-      accountAt (x .accounts) a .balance
+  settled-balance : (a : ℕ) → a < length (x .accounts) → accountAt (x .accounts) a .balance
       +ℤ sumTo (length (x .listings)) (λ c. pos (listingAt x c .contract .multiplier) *ℤ marked (booksOf x) (settlementPrice x c) a c)
       ≡ accountAt (settled x .accounts) a .balance
   unfolding settledAccount
   settled-balance a l =
-      ap (λ (z : ℤ). accountAt (x .accounts) a .balance +ℤ z) (sym (profit-marked a))
-      ∙ ap (λ (k : Account). k .balance) (sym (settled-account a l))
+      ap (λ (z : ℤ). accountAt (x .accounts) a .balance +ℤ z) (sym (profit-marked a)) ∙ ap (λ (k : Account). k .balance) (sym (settled-account a l))
 
   -- "holdings become start-of-day"
   settled-start : (a c : ℕ) → a < length (x .accounts) → netNow x a c ≡ netAtStart (settled x) a c
@@ -184,16 +170,12 @@ module _ (x : Exchange) (r : replays x ≡ true) (shaped : Shaped x) where
   unfolding settledListing settledContract
   settled-multiplier c l = ap (λ (n : Listing). n .contract .multiplier) (sym (settled-listing c l))
 
-  settled-trades : [] ≡ settled x .trades
-  unfolding settled
-  settled-trades = refl
-
   pub settled-moves : Makes x (settles (settlementPrice x)) (settled x)
-  unfolding after booksOf
+  unfolding after booksOf settled
   settled-moves = record {
     balance = settled-balance;
     start = λ a c l k. sym (net-moves x r a c (placed x shaped a c l k)) ∙ settled-start a c l;
     reference = settled-reference;
     multiplier = settled-multiplier;
-    trades = settled-trades;
+    trades = refl;
   }

@@ -1,10 +1,8 @@
 -- What commands do changes neither how many accounts and contracts there are nor how many holdings an account has. Assumes
 -- nothing.
-use mathlib.Core.List.{List}
-use mathlib.Core.Path.{_≡_, refl, sym, ap, _∙_}
-use Prim.Native.Nat.{ℕ, _+_, _<_}
 use lib.IntN.{ℤ}
-use lib.ListN.{length, getD, length-set, length-map}
+use Rattle.laws.specs.Logic.{List, _≡_, refl, sym, ap, _∙_}
+use Rattle.laws.specs.Numbers.{ℕ, _+_, _<_, length, getD, length-map, length-set}
 use Rattle.laws.specs.Tabulate.{length-tabulate, getD-tabulate}
 use Rattle.laws.specs.Lists.{kept-at}
 use Rattle.rules.specs.Auction.{matchOf}
@@ -12,9 +10,7 @@ use Rattle.rules.specs.Exchange.{Exchange, Listing, noAccount, accountAt, place
 use Rattle.rules.specs.Matching.{Entered}
 use Rattle.rules.specs.Settlement.{carriedHolding, settledAccount, settledListing, settled}
 use Rattle.rules.specs.Step.{withListing, withTrades, paid, exchangeAfter, exchangeMatched}
-use Rattle.rules.specs.declared.Account.{Account}
-use Rattle.rules.specs.declared.NewOrder.{NewOrder}
-use Rattle.rules.specs.declared.Trade.{Trade}
+use Rattle.rules.specs.declared.{Account.Account, NewOrder.NewOrder, Trade.Trade}
 use Rattle.accounting.proofs.Booking.{all-booked-length, all-booked-wide}
 
 pub record SameShape (x x′ : Exchange) : Type 0 where

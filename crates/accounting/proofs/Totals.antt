@@ -1,15 +1,12 @@
 -- AS MANY LOTS ARE LONG AS SHORT: in each contract all long lots together equal all short lots together after every list of commands, from
 -- every state in which they did. Each trade has a buyer and a seller among the accounts, so the net holdings together are those of the
 -- start of the day, and these no move changes. It rests on the two facts that Runs.antt rests on. Assumes nothing else.
-use mathlib.Core.Bool.{Bool, true, false}
-use mathlib.Core.List.{List}
-use mathlib.Core.Path.{_≡_, refl, sym, ap, _∙_}
-use Prim.Native.Nat.{ℕ, _<_}
-use native.Mathlib.Omega.{arith}
 use lib.IntN.{ℤ, pos, _+ℤ_, _-ℤ_, +ℤ-idr}
-use lib.ListN.{length}
+use Rattle.laws.specs.Logic.{true, List, _≡_, refl, sym, ap, _∙_}
+use Rattle.laws.specs.Numbers.{ℕ, _<_, arith, length}
 use Rattle.laws.specs.Ring.{split, d-eq, ring}
 use Rattle.laws.specs.Sums.{sumTo, sumTo-ext, sumTo-add}
+use Rattle.laws.specs.Choice.{by-test}
 use Rattle.rules.specs.Condition3.{run, accountsOf, contractsOf, holdingIn, netHolding, TotalsEqual}
 use Rattle.rules.specs.Exchange.{Exchange}
 use Rattle.rules.specs.Kinds.{step}
@@ -24,14 +21,11 @@ use Rattle.accounting.proofs.Trades.{sumTo-sub, zero-net}
 
 -- ---- integers
 
-put-back : (x y : ℤ) → x ≡ (x -ℤ y) +ℤ y
-put-back x y = rw (split x, split y) (simp ring (d-eq _ _ _ _ (omega arith)))
-
 no-more : (y : ℤ) → pos 0 +ℤ y ≡ y
 no-more y = rw (split y) (simp ring (d-eq _ _ _ _ (omega arith)))
 
 no-difference : (x y : ℤ) → x -ℤ y ≡ pos 0 → x ≡ y
-no-difference x y e = put-back x y ∙ ap (λ (z : ℤ). z +ℤ y) e ∙ no-more y
+no-difference x y e = (rw (split x, split y) (simp ring (d-eq _ _ _ _ (omega arith)))) ∙ ap (λ (z : ℤ). z +ℤ y) e ∙ no-more y
 
 -- ---- one state
 
@@ -45,8 +39,7 @@ unfolding position booksOf
 net-of-all x s c k =
     sumTo-ext (length (x .accounts)) _ (λ a. netAtStart x a c +ℤ netHolding a c (x .trades)) (λ a l. s .net a c l k)
     ∙ sumTo-add (length (x .accounts)) (λ a. netAtStart x a c) (λ a. netHolding a c (x .trades))
-    ∙ ap (λ (z : ℤ). sumTo (length (x .accounts)) (λ a. netAtStart x a c) +ℤ z) (zero-net (length (x .accounts)) c (x .trades) (s .known))
-    ∙ +ℤ-idr _
+    ∙ ap (λ (z : ℤ). sumTo (length (x .accounts)) (λ a. netAtStart x a c) +ℤ z) (zero-net (length (x .accounts)) c (x .trades) (s .known)) ∙ +ℤ-idr _
 
 -- equal totals are net holdings that come to nothing
 module _ (m : Memory) (c : ℕ) where
@@ -56,8 +49,7 @@ module _ (m : Memory) (c : ℕ) where
 
   totals-nothing : TotalsEqual m c → netOfAll (exchangeOf m) c ≡ pos 0
   totals-nothing e =
-      nets-are
-      ∙ ap (λ (z : ℤ). z -ℤ sumTo (accountsOf m) (λ a. pos (holdingIn m a c .short))) e
+      nets-are ∙ ap (λ (z : ℤ). z -ℤ sumTo (accountsOf m) (λ a. pos (holdingIn m a c .short))) e
       ∙ itself (sumTo (accountsOf m) (λ a. pos (holdingIn m a c .short)))
 
   nothing-totals : netOfAll (exchangeOf m) c ≡ pos 0 → TotalsEqual m c
@@ -82,13 +74,8 @@ module _
     sound-totals c k =
         let h = end-shape kept read-back m cs d in
         nothing-totals (run m cs) c
-        (net-of-all (exchangeOf (run m cs)) (end-sound kept read-back m cs d s) c (rw (h .listings) k)
-        ∙ rw (h .accounts) (level-after c k))
+        (net-of-all (exchangeOf (run m cs)) (end-sound kept read-back m cs d s) c (rw (h .listings) k) ∙ rw (h .accounts) (level-after c k))
 
   -- IN EACH CONTRACT ALL LONG LOTS EQUAL ALL SHORT LOTS
   pub totals-stay : (c : ℕ) → c < contractsOf m → TotalsEqual (run m cs) c
-  totals-stay c k = by-wellformed (wellFormedMemory m) refl
-    where
-      by-wellformed : (w : Bool) → wellFormedMemory m ≡ w → TotalsEqual (run m cs) c
-      by-wellformed true w = sound-totals (formed-sound m d w) c k
-      by-wellformed false w = rw (run-stays m w cs) (equal c k)
+  totals-stay c k = by-test (wellFormedMemory m) (λ w. sound-totals (formed-sound m d w) c k) (λ w. rw (run-stays m w cs) (equal c k))

@@ -1,12 +1,8 @@
 -- What an account's trades sold for, cost, bought and sold (Condition3.antt), against its legs, against lists in two parts, and
 -- summed over the accounts: what one account gains another loses. Assumes nothing.
-use mathlib.Core.Bool.{Bool, true, false, _&&_}
-use mathlib.Core.List.{List, [], _∷_, _++_, append-assoc}
-use mathlib.Core.Path.{_≡_, refl, sym, ap, ap₂, _∙_}
-use Prim.Native.Nat.{ℕ, zero, suc, _+_, _*_, _<_}
-use native.Mathlib.Omega.{arith}
-use lib.Dec.{eqb}
 use lib.IntN.{ℤ, pos, _+ℤ_, _-ℤ_}
+use Rattle.laws.specs.Logic.{Bool, true, false, _&&_, List, [], _∷_, _++_, append-assoc, _≡_, refl, sym, ap, ap₂, _∙_}
+use Rattle.laws.specs.Numbers.{ℕ, zero, suc, _+_, _*_, _<_, arith, eqb}
 use Rattle.laws.specs.Choice.{pick}
 use Rattle.laws.specs.Ring.{split, d-eq, ring}
 use Rattle.laws.specs.Sums.{sumOf, sumTo, sumOf-append, sumTo-ext, sumTo-add, sumTo-zero, sumTo-at}
@@ -60,22 +56,17 @@ pub flow-legs : (a c : ℕ) (ts : List Trade) → flow (legs a c ts) ≡ proceed
 unfolding legs flow proceeds sales costs sumOf
 flow-legs a c [] = refl
 flow-legs a c (t ∷ ts) =
-    legs-cons flow flow-append a c t ts
-    ∙ ap (λ (z : ℤ). flow (boughtBy a c t) +ℤ (flow (soldBy a c t) +ℤ z)) (flow-legs a c ts)
+    legs-cons flow flow-append a c t ts ∙ ap (λ (z : ℤ). flow (boughtBy a c t) +ℤ (flow (soldBy a c t) +ℤ z)) (flow-legs a c ts)
     ∙ flow-one (eqb (t .contract) c && eqb (t .buyer) a) (eqb (t .contract) c && eqb (t .seller) a) _ _ (t .price) (t .lots) (sales a c ts) (costs a c ts)
 
 pub net-legs : (a c : ℕ) (ts : List Trade) → net (legs a c ts) ≡ netHolding a c ts
 unfolding net legs netHolding bought sold sumOf
 net-legs a c [] = refl
 net-legs a c (t ∷ ts) =
-    legs-cons net net-append a c t ts
-    ∙ ap (λ (z : ℤ). net (boughtBy a c t) +ℤ (net (soldBy a c t) +ℤ z)) (net-legs a c ts)
+    legs-cons net net-append a c t ts ∙ ap (λ (z : ℤ). net (boughtBy a c t) +ℤ (net (soldBy a c t) +ℤ z)) (net-legs a c ts)
     ∙ net-one (eqb (t .contract) c && eqb (t .buyer) a) (eqb (t .contract) c && eqb (t .seller) a) _ _ (t .price) (t .lots) (bought a c ts) (sold a c ts)
 
 -- ---- lists in two parts
-
-less-sums : (a b c e : ℕ) → pos (a + b) -ℤ pos (c + e) ≡ pos a -ℤ pos c +ℤ (pos b -ℤ pos e)
-less-sums a b c e = simp ring (d-eq _ _ _ _ (omega arith))
 
 pub proceeds-append : (a c : ℕ) (ts us : List Trade) → proceeds a c (ts ++ us) ≡ proceeds a c ts +ℤ proceeds a c us
 unfolding proceeds sales costs
@@ -84,7 +75,7 @@ proceeds-append a c ts us =
       sumOf-append (λ t. pick (eqb (t .contract) c && eqb (t .seller) a) (t .price * t .lots) 0) ts us,
       sumOf-append (λ t. pick (eqb (t .contract) c && eqb (t .buyer) a) (t .price * t .lots) 0) ts us,
     )
-    (less-sums (sales a c ts) (sales a c us) (costs a c ts) (costs a c us))
+    (simp ring (d-eq _ _ _ _ (omega arith)))
 
 pub netHolding-append : (a c : ℕ) (ts us : List Trade) → netHolding a c (ts ++ us) ≡ netHolding a c ts +ℤ netHolding a c us
 unfolding netHolding bought sold
@@ -93,7 +84,7 @@ netHolding-append a c ts us =
       sumOf-append (λ t. pick (eqb (t .contract) c && eqb (t .buyer) a) (t .lots) 0) ts us,
       sumOf-append (λ t. pick (eqb (t .contract) c && eqb (t .seller) a) (t .lots) 0) ts us,
     )
-    (less-sums (bought a c ts) (bought a c us) (sold a c ts) (sold a c us))
+    (simp ring (d-eq _ _ _ _ (omega arith)))
 
 pub proceeds-nil : (a c : ℕ) → proceeds a c [] ≡ pos 0
 unfolding proceeds sales costs sumOf
@@ -128,8 +119,7 @@ module _ (accounts c : ℕ) (who f : Trade → ℕ) where
   unfolding part whole sumOf Among
   all-parts [] k = sumTo-zero accounts
   all-parts (t ∷ ts) k =
-      sumTo-add accounts (λ a. pos (pick (eqb (t .contract) c && eqb (who t) a) (f t) 0)) (λ a. pos (part a ts))
-      ∙ ap₂ (λ (u v : ℤ). u +ℤ v)
+      sumTo-add accounts (λ a. pos (pick (eqb (t .contract) c && eqb (who t) a) (f t) 0)) (λ a. pos (part a ts)) ∙ ap₂ (λ (u v : ℤ). u +ℤ v)
       (sumTo-ext accounts _ _ (λ a l. at-one (eqb (t .contract) c) (eqb (who t) a) (f t))
       ∙ sumTo-at accounts (who t) (pos (pick (eqb (t .contract) c) (f t) 0)) (k .0))
       (all-parts ts (k .1))
@@ -140,9 +130,6 @@ sumTo-sub zero f g = refl
 sumTo-sub (suc n) f g =
     rw (sumTo-sub n f g)
     (rw (split (sumTo n f), split (sumTo n g), split (f n), split (g n)) (simp ring (d-eq _ _ _ _ (omega arith))))
-
-itself : (x : ℤ) → x -ℤ x ≡ pos 0
-itself x = rw (split x) (simp ring (d-eq _ _ _ _ (omega arith)))
 
 buyers-known : (accounts c : ℕ) (f : Trade → ℕ) (ts : List Trade) → AllKnown accounts ts → Among accounts c (λ t. t .buyer) f ts
 unfolding AllKnown Among
@@ -167,11 +154,11 @@ unfolding proceeds sales costs part
 zero-proceeds accounts c ts k =
     sumTo-sub accounts (λ a. pos (sales a c ts)) (λ a. pos (costs a c ts))
     ∙ ap (λ (z : ℤ). z -ℤ sumTo accounts (λ a. pos (costs a c ts))) (level accounts c (λ t. t .price * t .lots) ts k)
-    ∙ itself (sumTo accounts (λ a. pos (costs a c ts)))
+    ∙ rw (split (sumTo accounts (λ a. pos (costs a c ts)))) (simp ring (d-eq _ _ _ _ (omega arith)))
 
 pub zero-net : (accounts c : ℕ) (ts : List Trade) → AllKnown accounts ts → sumTo accounts (λ a. netHolding a c ts) ≡ pos 0
 unfolding netHolding bought sold part
 zero-net accounts c ts k =
     sumTo-sub accounts (λ a. pos (bought a c ts)) (λ a. pos (sold a c ts))
     ∙ ap (λ (z : ℤ). sumTo accounts (λ a. pos (bought a c ts)) -ℤ z) (level accounts c (λ t. t .lots) ts k)
-    ∙ itself (sumTo accounts (λ a. pos (bought a c ts)))
+    ∙ rw (split (sumTo accounts (λ a. pos (bought a c ts)))) (simp ring (d-eq _ _ _ _ (omega arith)))

@@ -1,13 +1,10 @@
 -- The records of an area after a record was put in, by `move_back` and a write, or records were taken out, by `close_up`, or all
 -- were cleared. `s` and `e` are where the lent part begins and ends, as the caller's code computes them; `z` is the record whose
 -- words are all zero. Assumes nothing.
-use mathlib.Core.List.{List, [], _++_}
-use mathlib.Core.Path.{_≡_, refl, sym, _∙_}
 use borrow.Rule.Slice.PartMut.{putMid}
-use Prim.Native.Nat.{ℕ, _+_, _-_, _*_, _≤_, _<_}
 use native.Mathlib.Nat.{mul-add, mul-one, mul-sub, mul-zero, mul-le-mul-left}
-use native.Mathlib.Omega.{arith}
-use lib.ListN.{length, take, drop, replicate, length-replicate}
+use Rattle.laws.specs.Logic.{List, [], _++_, _≡_, refl, sym, _∙_}
+use Rattle.laws.specs.Numbers.{ℕ, _+_, _-_, _*_, _<_, _≤_, arith, length, take, drop, replicate, length-replicate}
 use Rattle.areas.specs.Lists.{over, insertAt, removeAt, padded}
 use Rattle.areas.specs.Moves.{movedBack, closedUp}
 use Rattle.areas.specs.Records.{Codec, records, store}
@@ -56,8 +53,7 @@ module _ {A : Type 0} {W : ℕ} {words : A → List ℕ} {first : List ℕ → A
         ∙ rw (padded-drop n z (records W first a base n) (length-records C a base n) k h)
 
     -- all are cleared
-    pub emptied : (e : ℕ) (part : List ℕ) → e ≡ base + W * n → e ≤ length a
-        → part ≡ replicate (length (take (e - base) (drop base a))) 0
+    pub emptied : (e : ℕ) (part : List ℕ) → e ≡ base + W * n → e ≤ length a → part ≡ replicate (length (take (e - base) (drop base a))) 0
         → putMid base (e - base) a part ≡ store words a base (padded n z [])
     emptied e part he l ep =
         let k : e - base ≡ W * n = omega arith in

@@ -1,12 +1,10 @@
 -- The laws of `specs/Lists.antt`. Assumes nothing.
-use mathlib.Core.List.{List, [], _∷_, _++_, append-assoc, append-nil}
-use mathlib.Core.Path.{_≡_, refl, sym, ap, _∙_}
-use Prim.Native.Nat.{ℕ, zero, suc, _+_, _-_, _≤_, _<_}
 use native.Mathlib.Nat.{add-zero, add-assoc, sub-self, sub-zero, suc-sub-suc, zero-sub, zero-add}
-use native.Mathlib.Numerals.{add-one}
-use native.Mathlib.Omega.{arith}
-use lib.ListN.{length, take, drop, getD, set, replicate, length-append, length-take, length-drop, length-replicate, take-append-drop, drop-of-length-le, List·getD-append, getD-replicate}
+use lib.ListN.{take-append-drop, drop-of-length-le, List·getD-append, getD-replicate}
 use lib.Seq.{sets, sets-eq, take-take, take-add, take-at, take-append-le, take-append-add, drop-at, drop-drop, drop-append-le, drop-append-add, length-take-le, set-split, getD-take, getD-drop, getD-append-add}
+use Rattle.laws.specs.Logic.{List, [], _∷_, _++_, append-nil, append-assoc, _≡_, refl, sym, ap, _∙_}
+use Rattle.laws.specs.Numbers.{ℕ, zero, suc, _+_, _-_, _<_, _≤_, add-one, arith, length, getD, set, take, drop, replicate, length-append, length-drop}
+use Rattle.laws.specs.Numbers.{length-replicate, length-take}
 use Rattle.areas.specs.Lists.{over, insertAt, removeAt, padded}
 
 module _ {A : Type 0} where
@@ -90,14 +88,12 @@ module _ {A : Type 0} where
 
     pub getD-over-in : (k : ℕ) (d : A) → k < length ys → getD (over l at ys) (at + k) d ≡ getD ys k d
     getD-over-in k d h =
-        sym (getD-drop at (over l at ys) k d)
-        ∙ ap (λ (r : List A). getD r k d) drop-over-at ∙ List·getD-append ys (drop (at + length ys) l) d k h
+        sym (getD-drop at (over l at ys) k d) ∙ ap (λ (r : List A). getD r k d) drop-over-at ∙ List·getD-append ys (drop (at + length ys) l) d k h
 
     pub getD-over-behind : (k : ℕ) (d : A) → at + length ys ≤ k → getD (over l at ys) k d ≡ getD l k d
     getD-over-behind k d h =
         let e : k ≡ k + 0 = omega arith in
-        ap (λ (j : ℕ). getD (over l at ys) j d) e
-        ∙ sym (getD-drop k (over l at ys) 0 d)
+        ap (λ (j : ℕ). getD (over l at ys) j d) e ∙ sym (getD-drop k (over l at ys) 0 d)
         ∙ ap (λ (r : List A). getD r 0 d) (drop-over k h) ∙ getD-drop k l 0 d ∙ ap (λ (j : ℕ). getD l j d) (sym e)
 
     -- a second write over the front of the first

@@ -1,10 +1,7 @@
 -- Sums over a list that was filled up. Assumes nothing.
-use mathlib.Core.List.{List}
-use mathlib.Core.Path.{_≡_, _∙_}
-use Prim.Native.Nat.{ℕ, _-_}
 use native.Mathlib.Nat.{zero-mul}
-use native.Mathlib.Omega.{arith}
-use lib.ListN.{length, replicate}
+use Rattle.laws.specs.Logic.{List, _≡_, _∙_}
+use Rattle.laws.specs.Numbers.{ℕ, _-_, arith, length, replicate}
 use Rattle.laws.specs.Sums.{sumOf, sumOf-append, sumOf-replicate}
 use Rattle.areas.specs.Lists.{padded}
 

@@ -1,14 +1,13 @@
 -- The laws of words that are moved or cleared one by one, for the loops of `src/lib.rt`, and of a part that was moved and is
 -- then written in front or behind, for their callers. Assumes nothing.
-use mathlib.Core.List.{List, _++_, append-assoc, append-nil}
-use mathlib.Core.Path.{_≡_, refl, sym, ap, _∙_}
 use borrow.Rule.Slice.PartMut.{putMid, post-is}
-use Prim.Native.Nat.{ℕ, zero, suc, _+_, _-_, _≤_, _<_}
 use native.Mathlib.Nat.{add-comm, sub-self}
-use native.Mathlib.Numerals.{add-one, sub-one}
-use native.Mathlib.Omega.{arith}
-use lib.ListN.{length, take, drop, getD, set, replicate, length-append, length-take, length-drop, length-replicate, drop-of-length-le, replicate-append-replicate, List·getD-append}
+use native.Mathlib.Numerals.{sub-one}
+use lib.ListN.{drop-of-length-le, replicate-append-replicate, List·getD-append}
 use lib.Seq.{take-all, take-at, take-length, take-suc, take-take, drop-at, drop-cons, drop-drop, drop-length, getD-append-add, getD-drop, getD-take, length-take-le, set-at}
+use Rattle.laws.specs.Logic.{List, _++_, append-nil, append-assoc, _≡_, refl, sym, ap, _∙_}
+use Rattle.laws.specs.Numbers.{ℕ, zero, suc, _+_, _-_, _<_, _≤_, add-one, arith, length, getD, set, take, drop, replicate, length-append, length-drop}
+use Rattle.laws.specs.Numbers.{length-replicate, length-take}
 use Rattle.areas.specs.Lists.{over}
 use Rattle.areas.specs.Moves.{movedBack, movedForward, closedUp}
 use Rattle.areas.proofs.Lists.{drop-take, over-tail, over-front}
@@ -20,8 +19,7 @@ shifted w p i = take i p ++ drop (i - w) (take (length p - w) p)
 
 pub shifted-none : (w : ℕ) (p : List ℕ) → w ≤ length p → p ≡ shifted w p (length p)
 unfolding shifted
-shifted-none w p h =
-    rw (take-length, drop-of-length-le (take (length p - w) p) {i = length p - w} (rw length-take (omega arith)), append-nil)
+shifted-none w p h = rw (take-length, drop-of-length-le (take (length p - w) p) {i = length p - w} (rw length-take (omega arith)), append-nil)
 
 pub shifted-done : (w : ℕ) (p : List ℕ) → shifted w p w ≡ movedBack w p
 unfolding shifted movedBack

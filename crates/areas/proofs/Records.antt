@@ -1,12 +1,10 @@
 -- The laws of `specs/Records.antt`, over any record that has a `Codec`: what a caller needs who writes records into an area
 -- and reads them, or others, back. W is the stride, so `base + W * i` is the word where record i begins. Assumes nothing.
-use mathlib.Core.List.{List, [], _∷_, _++_, append-assoc, append-nil}
-use mathlib.Core.Path.{_≡_, refl, sym, ap, _∙_}
-use Prim.Native.Nat.{ℕ, zero, suc, _+_, _-_, _*_, _≤_, _<_}
 use native.Mathlib.Nat.{mul-suc, mul-zero, mul-add, mul-sub, mul-le-mul-left, sub-zero, suc-sub-suc}
-use native.Mathlib.Omega.{arith}
-use lib.ListN.{length, take, drop, getD, set, replicate, length-append, length-take, length-drop, take-append-drop, replicate-append-replicate, List·getD-append}
+use lib.ListN.{take-append-drop, replicate-append-replicate, List·getD-append}
 use lib.Seq.{take-nil, drop-nil, take-add, take-append-add, drop-at, drop-drop, drop-append-le, drop-append-add, length-take-le, getD-drop, drop-cons}
+use Rattle.laws.specs.Logic.{List, [], _∷_, _++_, append-nil, append-assoc, _≡_, refl, sym, ap, _∙_}
+use Rattle.laws.specs.Numbers.{ℕ, zero, suc, _+_, _-_, _*_, _<_, _≤_, arith, length, getD, set, take, drop, replicate, length-append, length-drop, length-take}
 use Rattle.areas.specs.Lists.{over, insertAt}
 use Rattle.areas.specs.Records.{Codec, decode, encode, records, store}
 use Rattle.areas.proofs.Lists.{length-over, over-nil, over-tail, over-part, drop-over-at, drop-over, over-front, over-over, over-append, over-inside, over-comm, set-over}
@@ -105,15 +103,13 @@ module _ {A : Type 0} {W : ℕ} {words : A → List ℕ} {first : List ℕ → A
   pub getD-encode : (os : List A) (i word : ℕ) (d : A) → i < length os → word < W →
       getD (encode words os) (W * i + word) 0 ≡ getD (words (getD os i d)) word 0
   getD-encode os i word d h b =
-      sym (getD-drop (W * i) (encode words os) word 0)
-      ∙ ap (λ (r : List ℕ). getD r word 0)
+      sym (getD-drop (W * i) (encode words os) word 0) ∙ ap (λ (r : List ℕ). getD r word 0)
       (sym (encode-drop i os) ∙ ap (encode words) (drop-cons os i d h) ∙ encode-cons (getD os i d) (drop (suc i) os))
       ∙ List·getD-append (words (getD os i d)) (encode words (drop (suc i) os)) 0 word (rw (C .wide (getD os i d)) b)
 
   pub encode-over : (os : List A) (j : ℕ) (ps : List A) → encode words (over os j ps) ≡ over (encode words os) (W * j) (encode words ps)
   unfolding over
-  encode-over os j ps =
-      rw (encode-append, encode-append, encode-take, encode-drop, length-encode ps, mul-add W j (length ps))
+  encode-over os j ps = rw (encode-append, encode-append, encode-take, encode-drop, length-encode ps, mul-add W j (length ps))
 
   -- a record that is all zero
   pub encode-zeros : (n : ℕ) (z : A) → words z ≡ replicate W 0 → encode words (replicate n z) ≡ replicate (W * n) 0
@@ -181,8 +177,7 @@ module _ {A : Type 0} {W : ℕ} {words : A → List ℕ} {first : List ℕ → A
       → records W first (over a at ys) base n ≡ records W first a base n
   unfolding records over
   records-over-before a at ys base n h b =
-      decode-front at base n a (ys ++ drop (at + length ys) a) h b
-      ∙ sym (rw (take-append-drop at a) at (decode-front at base n a (drop at a) h b))
+      decode-front at base n a (ys ++ drop (at + length ys) a) h b ∙ sym (rw (take-append-drop at a) at (decode-front at base n a (drop at a) h b))
 
   pub records-over-after : (a : List ℕ) (at : ℕ) (ys : List ℕ) (base n : ℕ) → at + length ys ≤ base → at ≤ length a
       → records W first (over a at ys) base n ≡ records W first a base n
@@ -206,8 +201,7 @@ module _ {A : Type 0} {W : ℕ} {words : A → List ℕ} {first : List ℕ → A
   pub records-store-front : (a : List ℕ) (base n : ℕ) (os ps : List A) → base ≤ length a → length os ≡ n
       → records W first (store words a base (os ++ ps)) base n ≡ os
   unfolding records store
-  records-store-front a base n os ps h l =
-      rw (drop-over-at a base (encode words (os ++ ps)) h, encode-append, append-assoc, ← l) (decode-encode os _)
+  records-store-front a base n os ps h l = rw (drop-over-at a base (encode words (os ++ ps)) h, encode-append, append-assoc, ← l) (decode-encode os _)
 
   pub records-store : (a : List ℕ) (base n : ℕ) (os : List A) → base ≤ length a → length os ≡ n → records W first (store words a base os) base n ≡ os
   records-store a base n os h l = rw append-nil at (records-store-front a base n os [] h l)

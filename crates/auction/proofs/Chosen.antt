@@ -1,14 +1,9 @@
 -- The match at the chosen price, with volume and without it. Assumes nothing.
-use mathlib.Core.List.{List, []}
-use mathlib.Core.Path.{_≡_, refl, sym, ap, _∙_}
-use Prim.Native.Nat.{ℕ, _-_}
-use native.Mathlib.Omega.{arith}
-use borrow.Author.Tests.{le-ltb, lt-ltb}
-use lib.ListN.{length, drop}
+use Rattle.laws.specs.Logic.{List, [], _≡_, refl, sym, ap, _∙_}
+use Rattle.laws.specs.Numbers.{ℕ, _-_, arith, lt-ltb, le-ltb, length, drop}
 use Rattle.rules.specs.Auction.{Matched, auctionMatch, matchAt, unmatched}
 use Rattle.rules.specs.Memory.{putQueue, queueIn}
-use Rattle.rules.specs.declared.Account.{Account}
-use Rattle.rules.specs.declared.Order.{Order}
+use Rattle.rules.specs.declared.{Account.Account, Order.Order}
 use Rattle.rules.proofs.Codecs.{length-queue, put-queue}
 use Rattle.book.proofs.Trading.{all-booked}
 use Rattle.auction.specs.Matched.{FilledIs, MatchReady, MatchedIs, levelMatch}

@@ -1,12 +1,7 @@
 -- The loop that counts the trades of a match: those so far, with those of what is left of the two queues, are the answer.
 -- Assumes nothing.
-use mathlib.Core.Bool.{true, false, _&&_}
-use mathlib.Core.List.{List, [], _∷_}
-use mathlib.Core.Path.{_≡_, refl, sym, ap, _∙_}
-use Prim.Native.Nat.{ℕ, _+_, _-_, _≤_, _<_, min}
-use native.Mathlib.Nat.{sub-zero}
-use native.Mathlib.Omega.{arith}
-use lib.ListN.{length, getD, drop}
+use Rattle.laws.specs.Logic.{true, false, _&&_, List, [], _∷_, _≡_, refl, sym, ap, _∙_}
+use Rattle.laws.specs.Numbers.{ℕ, _+_, _-_, _<_, _≤_, min, sub-zero, arith, length, getD, drop}
 use Rattle.laws.specs.Choice.{both-true}
 use Rattle.rules.specs.Auction.{lessFirst, matchAt, reaches}
 use Rattle.rules.specs.Exchange.{noOrder}

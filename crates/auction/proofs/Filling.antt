@@ -1,19 +1,14 @@
 -- One side of a match as it lies: the area differs from what it was in one queue alone, of which the first orders are filled.
 -- Assumes nothing.
-use mathlib.Core.List.{List, [], _∷_, _++_, append-assoc}
-use mathlib.Core.Path.{_≡_, sym, ap, _∙_}
-use Prim.Native.Nat.{ℕ, _+_, _-_, _≤_, _<_}
-use native.Mathlib.Numerals.{add-one}
-use native.Mathlib.Omega.{arith}
-use borrow.Author.Tests.{le-ltb, lt-ltb}
-use lib.ListN.{length, getD, set, take, drop, length-drop, length-set, take-append-drop}
-use lib.Seq.{drop-at, length-take-le, set-split, take-set-le, take-suc}
+use lib.Seq.{take-set-le}
+use Rattle.laws.specs.Logic.{List, [], _∷_, _++_, append-assoc, _≡_, sym, ap, _∙_}
+use Rattle.laws.specs.Numbers.{ℕ, _+_, _-_, _<_, _≤_, add-one, arith, lt-ltb, le-ltb, length, getD, set, take, drop, length-drop, length-set, take-append-drop}
+use Rattle.laws.specs.Numbers.{length-take-le, take-suc, drop-at, set-split}
 use Rattle.rules.specs.Auction.{lessFirst}
 use Rattle.rules.specs.Exchange.{noOrder}
 use Rattle.rules.specs.Matching.{withLots}
 use Rattle.rules.specs.Memory.{orderFrom, putQueue, queueIn, firstWord}
-use Rattle.rules.specs.declared.Order.{Order}
-use Rattle.rules.specs.declared.Trade.{Trade}
+use Rattle.rules.specs.declared.{Order.Order, Trade.Trade}
 use Rattle.rules.proofs.AuctionTurns.{less-filled, less-part}
 use Rattle.rules.proofs.Codecs.{length-queue, order-at, put-queue, putQueue-again, queue-put}
 use Rattle.book.proofs.Queues.{next-order}
@@ -83,8 +78,7 @@ module _ {area₀ : List ℕ} {c n : ℕ} {area : List ℕ} {i : ℕ} (s : Side 
       lies-changed : area′ ≡ putQueue area₀ c n changed
       unfolding changed
       lies-changed =
-          written
-          ∙ ap (λ (p : Order). putQueue area c n (set queue i (withLots p (o .lots - k)))) (order-at area c n i here ∙ sym read)
+          written ∙ ap (λ (p : Order). putQueue area c n (set queue i (withLots p (o .lots - k)))) (order-at area c n i here ∙ sym read)
           ∙ over-first (set queue i (withLots o (o .lots - k)))
 
       queue-changed : queueIn area′ c n ≡ changed

@@ -1,12 +1,6 @@
 -- Volume and surplus at a price as the code finds them, and the search for the best among the resting prices. Assumes nothing.
-use mathlib.Core.Bool.{Bool, true, false}
-use mathlib.Core.List.{List, [], _∷_, _++_}
-use mathlib.Core.Path.{_≡_, refl, sym, ap, _∙_}
-use Prim.Native.Nat.{ℕ, _+_, _-_, _≤_, _<_, min}
-use native.Mathlib.Omega.{arith}
-use borrow.Author.Tests.{eq-eqb, ne-eqb}
-use lib.Dec.{ltb}
-use lib.ListN.{drop}
+use Rattle.laws.specs.Logic.{Bool, true, false, List, [], _∷_, _++_, _≡_, refl, sym, ap, _∙_}
+use Rattle.laws.specs.Numbers.{ℕ, _+_, _-_, _<_, _≤_, min, arith, eq-eqb, ne-eqb, ltb, drop}
 use Rattle.laws.specs.Choice.{pick, pick-same}
 use Rattle.rules.specs.Auction.{apart, bestFrom, bestOf, better, chosenPrice, lotsReaching, prices, reaches, restingPrices, smaller, surplus, volume}
 use Rattle.rules.specs.Memory.{orderFrom, queueIn, firstWord}
@@ -103,8 +97,7 @@ module _ (last : ℕ) (buys sells : List Order) where
 
   -- so the better of two levels is that of the better price
   pub better-level : (p q : ℕ) {first level r : Level} → first ≡ levelAt buys sells p → level ≡ levelAt buys sells q
-      → r ≡ pick (preferred last level first) level first
-      → r ≡ levelAt buys sells (pick (better last buys sells q p) q p)
+      → r ≡ pick (preferred last level first) level first → r ≡ levelAt buys sells (pick (better last buys sells q p) q p)
   better-level p q ef el er = er ∙ rw (ef, el, preferred-is q p) (cases (better last buys sells q p))
     where
       cases : (t : Bool) → pick t (levelAt buys sells q) (levelAt buys sells p) ≡ levelAt buys sells (pick t q p)
@@ -153,11 +146,7 @@ module _ {last : ℕ} {buys sells : List Order} {area : List ℕ} {c count answe
       let is : next ≡ levelAt buys sells (pick (better last buys sells (o .price) (chosen .price)) (o .price) (chosen .price))
       = better-level last buys sells (chosen .price) (o .price) (s .is) el en in
       let p : next .price ≡ pick (better last buys sells (o .price) (chosen .price)) (o .price) (chosen .price) = ap (λ (l : Level). l .price) is in
-      record {
-        within = omega arith;
-        is = level-own buys sells _ is;
-        so-far = rw p (rw (next-order area c count i o h e) at (s .so-far));
-      }
+      record { within = omega arith; is = level-own buys sells _ is; so-far = rw p (rw (next-order area c count i o h e) at (s .so-far)) }
 
   pub search-end : count ≤ i → chosen ≡ levelAt buys sells answer
   unfolding bestFrom prices

@@ -1,13 +1,7 @@
 -- The match's loop: what it ends with if from here on it goes by the rules, a turn that keeps this, and each way out of the loop.
 -- Assumes nothing.
-use mathlib.Core.Bool.{true, false, _&&_}
-use mathlib.Core.List.{List, [], _∷_}
-use mathlib.Core.Path.{_≡_, refl, sym, ap, subst, _∙_}
-use Prim.Native.Nat.{ℕ, _+_, _-_, _*_, _≤_, _<_, min}
-use native.Mathlib.Omega.{arith}
-use borrow.Author.Tests.{leb-true, ltb-true, le-leb}
-use lib.Dec.{leb, ltb}
-use lib.ListN.{length, getD, set, drop}
+use Rattle.laws.specs.Logic.{true, false, _&&_, List, [], _∷_, _≡_, refl, sym, ap, subst, _∙_}
+use Rattle.laws.specs.Numbers.{ℕ, _+_, _-_, _*_, _<_, _≤_, min, arith, leb-true, ltb-true, le-leb, leb, ltb, length, getD, set, drop}
 use Rattle.laws.specs.Choice.{allOf, both-true, true-both}
 use Rattle.areas.specs.Records.{store}
 use Rattle.areas.proofs.Records.{length-store}
@@ -17,9 +11,7 @@ use Rattle.rules.specs.Exchange.{noOrder}
 use Rattle.rules.specs.Holdings.{bookTrade}
 use Rattle.rules.specs.Matching.{withLots}
 use Rattle.rules.specs.Memory.{orderFrom, putQueue, queueIn, tradeWords, tradeStride, firstWord}
-use Rattle.rules.specs.declared.Account.{Account}
-use Rattle.rules.specs.declared.Order.{Order}
-use Rattle.rules.specs.declared.Trade.{Trade}
+use Rattle.rules.specs.declared.{Account.Account, Order.Order, Trade.Trade}
 use Rattle.rules.proofs.AuctionTaken.{KeptWithFewer, less-kept}
 use Rattle.rules.proofs.AuctionTurns.{match-at-stop, match-at-turn}
 use Rattle.rules.proofs.Codecs.{trade-codec}
@@ -258,8 +250,7 @@ module _
             answer =
                 rw (lb, ls, eh, ea)
                 (ap (λ (p : ℕ). finish (done + tr .lots) (made + 1) p (bookTrade held tr) (store tradeWords area (tradeStride * made) (tr ∷ [])) still) (sym trade-price)
-                ∙ sym (finish-trade done made latest held area tr still (omega arith))
-                ∙ ap (finish done made latest held area) (sym turn)
+                ∙ sym (finish-trade done made latest held area tr still (omega arith)) ∙ ap (finish done made latest held area) (sym turn)
                 ∙ g .answer);
             buys-stand = subst (λ (m : Matched). Stands (queueIn buys₀ c bought) (all .trades) (queueIn buys′ c bought) i′ (m .trades)) next bought′;
             sells-stand = subst (λ (m : Matched). Stands (queueIn sells₀ c sold) (all .trades) (queueIn sells′ c sold) j′ (m .trades)) next sold′;

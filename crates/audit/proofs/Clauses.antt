@@ -1,10 +1,6 @@
 -- Each clause of "a state is well formed" as the chain of tests that code makes for it. Assumes nothing.
-use mathlib.Core.Bool.{Bool, true, false, not, _&&_, _||_}
-use mathlib.Core.List.{List, [], _∷_}
-use mathlib.Core.Path.{_≡_, refl}
-use Prim.Native.Nat.{ℕ, _+_, _*_}
-use lib.Dec.{leb, ltb, eqb}
-use lib.ListN.{length, getD}
+use Rattle.laws.specs.Logic.{Bool, true, false, not, _&&_, _||_, List, [], _∷_, _≡_, refl}
+use Rattle.laws.specs.Numbers.{ℕ, _+_, _*_, eqb, leb, ltb, length, getD}
 use Rattle.laws.specs.Choice.{all, allOf}
 use Rattle.laws.specs.Chains.{all-passed}
 use Rattle.laws.specs.Tests.{Chain}
@@ -12,12 +8,7 @@ use Rattle.rules.specs.Bounds.{within, inAuction, phaseKnown, termsInRange, tic
 use Rattle.rules.specs.Exchange.{Listing}
 use Rattle.rules.specs.Memory.{Memory, countsInRange, hasRoom, queueStride, tradesWords}
 use Rattle.rules.specs.WellFormed.{contractInRange, heldInRange, orderInRange, ordersInRange, queuesSorted, sorted, uncrossed, queueQuoted, listingQuoted}
-use Rattle.rules.specs.declared.Account.{Account}
-use Rattle.rules.specs.declared.Contract.{Contract}
-use Rattle.rules.specs.declared.Holding.{Holding}
-use Rattle.rules.specs.declared.Order.{Order}
-use Rattle.rules.specs.declared.State.{State}
-use Rattle.rules.specs.declared.Trade.{Trade}
+use Rattle.rules.specs.declared.{Account.Account, Contract.Contract, Holding.Holding, Order.Order, State.State, Trade.Trade}
 use Rattle.audit.specs.Parts.{listingInRange}
 use Rattle.invariants.proofs.Clauses.{ListingOk, listing-ok}
 
@@ -26,15 +17,13 @@ use Rattle.invariants.proofs.Clauses.{ListingOk, listing-ok}
 abbrev few : List ℕ → ℕ → Bool
 few counts contracts = all (λ c. leb (getD counts c 0) maxResting) contracts
 
-pub counts-chain : (s : State)
-    → Chain (countsInRange s)
+pub counts-chain : (s : State) → Chain (countsInRange s)
     (within 1 4 (s .contractcount) ∷ within 1 32 (s .accountcount) ∷ leb (s .tradecount) maxTrades ∷ few (s .buycounts) (s .contractcount) ∷ [])
     (few (s .sellcounts) (s .contractcount))
 unfolding countsInRange
 counts-chain s = record { is = refl }
 
-pub room-chain : (m : Memory)
-    → Chain (hasRoom m)
+pub room-chain : (m : Memory) → Chain (hasRoom m)
     (leb (queueStride * m .state .contractcount) (length (m .buys)) ∷ leb (queueStride * m .state .contractcount) (length (m .sells)) ∷ [])
     (leb tradesWords (length (m .trades)))
 unfolding hasRoom
@@ -50,15 +39,13 @@ pub contract-chain : (c : Contract) → Chain (contractInRange c) (termsInRange 
 unfolding contractInRange
 contract-chain c = record { is = refl }
 
-pub order-chain : (accounts next nextstamp : ℕ) (c : Contract) (o : Order)
-    → Chain (orderInRange accounts next nextstamp c o)
+pub order-chain : (accounts next nextstamp : ℕ) (c : Contract) (o : Order) → Chain (orderInRange accounts next nextstamp c o)
     (within 1 1_000 (o .lots) ∷ ltb (o .account) accounts ∷ allowedToday c (o .price) ∷ leb 1 (o .number) ∷ ltb (o .number) next ∷ leb (o .close) 1 ∷ leb 1 (o .stamp) ∷ ltb (o .stamp) nextstamp ∷ [])
     (leb (o .quote) 1)
 unfolding orderInRange
 order-chain accounts next nextstamp c o = record { is = refl }
 
-pub listing-chain : (accounts next nextstamp : ℕ) (l : Listing)
-    → Chain (listingInRange accounts next nextstamp l)
+pub listing-chain : (accounts next nextstamp : ℕ) (l : Listing) → Chain (listingInRange accounts next nextstamp l)
     (contractInRange (l .contract)
     ∷ sorted false (l .buys)
     ∷ sorted true (l .sells)

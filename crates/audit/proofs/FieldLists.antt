@@ -1,15 +1,8 @@
 -- A field of the orders of all queues listed one after the other, and each value held against those behind it. Assumes nothing.
-use mathlib.Core.Bool.{true, false, not}
-use mathlib.Core.List.{List, [], _∷_, _++_, append-assoc, append-nil}
-use mathlib.Core.Path.{_≡_, refl, sym, ap, _∙_, subst}
-use Prim.Native.Nat.{ℕ, zero, suc, _+_, _*_, _<_, _≤_}
-use native.Mathlib.Nat.{le-of-suc-le-suc}
-use native.Mathlib.Numerals.{add-one}
-use native.Mathlib.Omega.{arith}
-use borrow.Author.Tests.{eq-eqb, ne-eqb}
-use lib.Dec.{eqb}
-use lib.ListN.{length, getD, set, take, drop, length-append, length-set}
-use lib.Seq.{take-suc, take-suc-set, take-all}
+use lib.Seq.{take-suc-set}
+use Rattle.laws.specs.Logic.{true, false, not, List, [], _∷_, _++_, append-nil, append-assoc, _≡_, refl, sym, ap, subst, _∙_}
+use Rattle.laws.specs.Numbers.{ℕ, zero, suc, _+_, _*_, _<_, _≤_, le-of-suc-le-suc, add-one, arith, eq-eqb, ne-eqb, eqb, length, getD, set, take, drop}
+use Rattle.laws.specs.Numbers.{length-append, length-set, take-all, take-suc}
 use Rattle.laws.specs.Choice.{allOf}
 use Rattle.laws.specs.Tabulate.{tabulate, tabulate-last}
 use Rattle.rules.specs.Bounds.{maxResting}

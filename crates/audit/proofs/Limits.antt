@@ -1,15 +1,11 @@
 -- A holding's limit and cover, and a balance's bound, in the tests that code makes of them. Assumes nothing.
-use mathlib.Core.Bool.{true, false, false≢true}
-use mathlib.Core.Path.{_≡_, sym, ap, _∙_}
-use Prim.Native.Nat.{ℕ, zero, suc, _+_, _-_, _*_, _<_, _≤_, _^_}
-use native.Mathlib.Omega.{arith}
-use borrow.Author.Tests.{leb-true, le-leb, lt-leb, ltb-true}
-use lib.Dec.{leb}
 use lib.IntN.{ℤ, pos, negsuc, negℤ, natAbs, _-ℤ_, +ℤ-idl}
 use lib.Signed.{ltZ}
 use mir.Facts.{toZ-ofZ}
 use mir.Syntax.{w64}
 use mir.Val.{SFits, toZ, ofZ}
+use Rattle.laws.specs.Logic.{true, false, false≢true, _≡_, sym, ap, _∙_}
+use Rattle.laws.specs.Numbers.{ℕ, zero, suc, _+_, _-_, _*_, _^_, _<_, _≤_, arith, leb-true, ltb-true, le-leb, lt-leb, leb}
 use Rattle.laws.specs.Bound.{within-ltZ, within-fits, within-neg-pos, abs-within}
 use Rattle.laws.specs.Choice.{same-test}
 use Rattle.laws.proofs.Signed.{read-pos}

@@ -1,19 +1,12 @@
 -- The marked orders of a queue met in turn: those of each account are counted, and the first that may not stand decides. Assumes nothing.
-use mathlib.Core.Bool.{Bool, true, false}
-use mathlib.Core.List.{List}
-use mathlib.Core.Path.{_≡_, refl, sym, _∙_}
-use Prim.Native.Nat.{ℕ, _+_, _<_, _≤_}
-use native.Mathlib.Omega.{arith}
-use borrow.Author.Tests.{eq-eqb, ne-eqb, eqb-true, eqb-false, le-leb, lt-leb}
-use lib.Dec.{eqb, leb}
-use lib.ListN.{length, getD, set, take, replicate, getD-replicate, length-replicate, length-set}
-use lib.Seq.{getD-set-other, getD-set-same, take-all}
+use Rattle.laws.specs.Logic.{Bool, true, false, List, _≡_, refl, sym, _∙_}
+use Rattle.laws.specs.Numbers.{ℕ, _+_, _<_, _≤_, arith, eqb-true, eqb-false, eq-eqb, ne-eqb, le-leb, lt-leb, eqb, leb, length, getD, set, take, replicate}
+use Rattle.laws.specs.Numbers.{length-replicate, length-set, getD-replicate, take-all, getD-set-same, getD-set-other}
 use Rattle.laws.specs.Choice.{pick, all, allOf, all-none, all-more, all-stop, all-true, allOf-all, allOf-at, allOf-stop, both-false, false-both, true-both}
 use Rattle.laws.specs.Sums.{sumOf, sumOf-more, sumOf-take}
 use Rattle.rules.specs.Exchange.{Listing, accountAt, noOrder, own}
 use Rattle.rules.specs.WellFormed.{isQuoteOf, markAllowed, orderInRange, queueQuoted, quotes}
-use Rattle.rules.specs.declared.Account.{Account}
-use Rattle.rules.specs.declared.Order.{Order}
+use Rattle.rules.specs.declared.{Account.Account, Order.Order}
 use Rattle.invariants.proofs.Clauses.{order-ok}
 use Rattle.audit.specs.Parts.{Markable, listingInRange}
 use Rattle.audit.proofs.Clauses.{listing-tested}

@@ -1,15 +1,8 @@
 -- Values met from the last to the first, with a mark for the remainder of each: a value whose remainder has no mark is none of those met.
 -- Assumes nothing.
-use mathlib.Core.Bool.{Bool, true, false, not}
-use mathlib.Core.List.{List, [], _∷_}
-use mathlib.Core.Path.{_≡_, refl, sym, ap, _∙_, subst}
-use Prim.Native.Nat.{ℕ, zero, suc, _+_, _%_, _<_, _≤_}
-use native.Mathlib.Nat.{mod-lt}
-use native.Mathlib.Omega.{arith}
-use borrow.Author.Tests.{ne-eqb, eqb-true, eqb-false}
-use lib.Dec.{eqb}
-use lib.ListN.{length, getD, set, take, drop, replicate, length-drop, length-replicate, length-set}
-use lib.Seq.{getD-drop, getD-set-other, getD-set-same, getD-take, length-take-le}
+use Rattle.laws.specs.Logic.{Bool, true, false, not, List, [], _∷_, _≡_, refl, sym, ap, subst, _∙_}
+use Rattle.laws.specs.Numbers.{ℕ, zero, suc, _+_, _%_, _<_, _≤_, mod-lt, arith, eqb-true, eqb-false, ne-eqb, eqb, length, getD, set, take, drop, replicate}
+use Rattle.laws.specs.Numbers.{length-drop, length-replicate, length-set, length-take-le, getD-take, getD-drop, getD-set-same, getD-set-other}
 use Rattle.laws.specs.Choice.{allOf, allOf-true, both-false}
 use Rattle.rules.specs.WellFormed.{usedOnce}
 use Rattle.audit.proofs.FieldLists.{once-none, once-off, once-on}

@@ -1,16 +1,12 @@
 -- From the replay of the day's trades over the starting holdings to the rule's answer. Assumes nothing.
-use mathlib.Core.Bool.{Bool, true, false}
-use mathlib.Core.List.{List}
-use mathlib.Core.Path.{_≡_, sym, ap, _∙_}
-use Prim.Native.Nat.{ℕ, _*_, _<_, _≤_}
-use lib.ListN.{length, getD}
+use Rattle.laws.specs.Logic.{Bool, true, false, List, _≡_, sym, ap, _∙_}
+use Rattle.laws.specs.Numbers.{ℕ, _*_, _<_, _≤_, length, getD}
 use Rattle.rules.specs.Bounds.{maxTrades}
 use Rattle.rules.specs.Exchange.{holdingAt, noTrade}
 use Rattle.rules.specs.Holdings.{bookTrades, neverBelowZero, sameHoldings, startOfDay}
 use Rattle.rules.specs.Memory.{recordedTrades, used, tradeStride}
 use Rattle.rules.specs.WellFormed.{replays}
-use Rattle.rules.specs.declared.Account.{Account}
-use Rattle.rules.specs.declared.Trade.{Trade}
+use Rattle.rules.specs.declared.{Account.Account, Trade.Trade}
 use Rattle.replaying.specs.Parts.{Booked, Replayable, ReplayIs}
 use Rattle.replaying.specs.declared.Held.{Held}
 use Rattle.replaying.proofs.Started.{start-at, used-day}
@@ -22,14 +18,7 @@ module _ (list : List Account) (k n : ℕ) (area : List ℕ) (count : ℕ) {star
       → ((a c : ℕ) → a < n → c < k → (holdingAt list a c .startlong ≤ 100_000) × (holdingAt list a c .startshort ≤ 100_000))
       → Replayable start k n area count
   replayable hk hn hc room each starts =
-      record {
-        few = hk;
-        fit = hn;
-        trades = hc;
-        room = room;
-        each = each;
-        held = λ a c ha hc. rw (e, start-at list a c) (starts a c ha hc);
-      }
+      record { few = hk; fit = hn; trades = hc; room = room; each = each; held = λ a c ha hc. rw (e, start-at list a c) (starts a c ha hc) }
 
   abbrev day : List Trade
   day = recordedTrades area count

@@ -1,20 +1,13 @@
 -- A queue's resting lots summed by account in one pass. Assumes nothing.
-use mathlib.Core.Bool.{Bool, true, false, _&&_}
-use mathlib.Core.List.{List}
-use mathlib.Core.Path.{_≡_, refl, sym, ap, _∙_}
-use Prim.Native.Nat.{ℕ, _+_, _*_, _<_, _≤_}
-use native.Mathlib.Omega.{arith}
-use borrow.Author.Tests.{eq-eqb, ne-eqb, eqb-true, eqb-false}
-use lib.Dec.{eqb}
-use lib.ListN.{length, getD, set, take, replicate, getD-replicate, length-replicate, length-set}
-use lib.Seq.{getD-set-other, getD-set-same, take-all}
+use Rattle.laws.specs.Logic.{Bool, true, false, _&&_, List, _≡_, refl, sym, ap, _∙_}
+use Rattle.laws.specs.Numbers.{ℕ, _+_, _*_, _<_, _≤_, arith, eqb-true, eqb-false, eq-eqb, ne-eqb, eqb, length, getD, set, take, replicate, length-replicate}
+use Rattle.laws.specs.Numbers.{length-set, getD-replicate, take-all, getD-set-same, getD-set-other}
 use Rattle.laws.specs.Choice.{pick, allOf-at, false-both, both-false, true-both}
 use Rattle.laws.specs.Sums.{sumOf, sumOf-more}
 use Rattle.rules.specs.Bounds.{maxAccounts, maxLots}
 use Rattle.rules.specs.Exchange.{Listing, lotsWhere, noOrder, own, resting}
 use Rattle.rules.specs.WellFormed.{heldInRange, holdingInRange, orderInRange}
-use Rattle.rules.specs.declared.Holding.{Holding}
-use Rattle.rules.specs.declared.Order.{Order}
+use Rattle.rules.specs.declared.{Holding.Holding, Order.Order}
 use Rattle.invariants.proofs.Clauses.{order-ok}
 use Rattle.audit.specs.Parts.{Summable, Summed, listingInRange}
 use Rattle.audit.proofs.Clauses.{listing-tested}
@@ -42,8 +35,7 @@ summing-none queue =
     }
 
 pub summing-all : {queue : List Order} {i : ℕ} {lots : List ℕ} → Summing queue i lots → i ≡ length queue → Summed queue lots
-summing-all {queue} {i} m e =
-    record { sums = λ a close l h. m .sums a close l h ∙ ap (resting close a) (take-all i queue (omega arith)) }
+summing-all {queue} {i} m e = record { sums = λ a close l h. m .sums a close l h ∙ ap (resting close a) (take-all i queue (omega arith)) }
 
 -- a holding tested by sums of its queues' lots
 pub held-same : (l : Listing) (a : ℕ) (h : Holding) {bought sold : List ℕ} → Summed (l .buys) bought → Summed (l .sells) sold → a < maxAccounts

@@ -1,8 +1,6 @@
 -- The room of a contract's queues. Assumes nothing.
-use mathlib.Core.List.{List}
-use Prim.Native.Nat.{ℕ, _<_, _≤_}
-use native.Mathlib.Omega.{arith}
-use lib.ListN.{length, getD}
+use Rattle.laws.specs.Logic.{List}
+use Rattle.laws.specs.Numbers.{ℕ, _<_, _≤_, arith, length, getD}
 use Rattle.rules.specs.Bounds.{maxResting}
 use Rattle.rules.specs.Memory.{firstWord}
 use Rattle.rules.specs.declared.State.{State}

@@ -1,12 +1,6 @@
 -- One queue read from its area in turn: sorted, uncrossed, each order in range. Assumes nothing.
-use mathlib.Core.Bool.{Bool, true, false}
-use mathlib.Core.List.{List, [], _∷_}
-use mathlib.Core.Path.{_≡_, refl, sym, ap, _∙_}
-use Prim.Native.Nat.{ℕ, _+_, _<_, _≤_}
-use native.Mathlib.Omega.{arith}
-use borrow.Author.Tests.{leb-true, leb-false}
-use lib.Dec.{leb, ltb}
-use lib.ListN.{drop}
+use Rattle.laws.specs.Logic.{Bool, true, false, List, [], _∷_, _≡_, refl, sym, ap, _∙_}
+use Rattle.laws.specs.Numbers.{ℕ, _+_, _<_, _≤_, arith, leb-true, leb-false, leb, ltb, drop}
 use Rattle.rules.specs.Memory.{orderFrom, queueIn, firstWord}
 use Rattle.rules.specs.WellFormed.{ahead, aheadOfFirst, sorted, uncrossed}
 use Rattle.rules.specs.declared.Order.{Order}
@@ -35,13 +29,11 @@ module _ (sell : Bool) (area : List ℕ) (c n i : ℕ) {b : Bool} (so-far : b �
   module _ {o p : Order} (h : i + 1 < n) (eo : o ≡ orderFrom (drop (firstWord c i) area)) (ep : p ≡ orderFrom (drop (firstWord c (i + 1)) area)) where
     two : drop i (queueIn area c n) ≡ o ∷ p ∷ drop (i + 1 + 1) (queueIn area c n)
     two =
-        next-order area c n i o (omega arith) eo
-        ∙ ap (λ (os : List Order). o ∷ os) (next-order area c n (i + 1) p h ep)
+        next-order area c n i o (omega arith) eo ∙ ap (λ (os : List Order). o ∷ os) (next-order area c n (i + 1) p h ep)
 
     pub sorted-turn : ahead sell o p ≡ true → b ≡ sorted sell (drop (i + 1) (queueIn area c n))
     sorted-turn k =
-        turn (sorted sell) (queueIn area c n) i so-far two (sorted-two sell o p _ k)
-        ∙ ap (sorted sell) (sym (next-order area c n (i + 1) p h ep))
+        turn (sorted sell) (queueIn area c n) i so-far two (sorted-two sell o p _ k) ∙ ap (sorted sell) (sym (next-order area c n (i + 1) p h ep))
 
     pub sorted-out : ahead sell o p ≡ false → false ≡ b
     sorted-out k = stop (sorted sell) (queueIn area c n) i so-far two (unsorted-two sell o p _ k)

@@ -1,17 +1,12 @@
 -- Recorded trades, each tested by itself. Assumes nothing.
-use mathlib.Core.Bool.{Bool, not, _&&_}
-use mathlib.Core.List.{List, [], _∷_}
-use mathlib.Core.Path.{_≡_, ap}
-use Prim.Native.Nat.{ℕ, _<_}
-use lib.Dec.{leb, ltb, eqb}
-use lib.ListN.{getD, length-replicate}
+use Rattle.laws.specs.Logic.{Bool, not, _&&_, List, [], _∷_, _≡_, ap}
+use Rattle.laws.specs.Numbers.{ℕ, _<_, eqb, leb, ltb, getD, length-replicate}
 use Rattle.laws.specs.Tabulate.{length-tabulate, getD-tabulate}
 use Rattle.laws.specs.Tests.{Chain, group}
 use Rattle.rules.specs.Bounds.{within, allowedToday}
 use Rattle.rules.specs.Exchange.{Listing, listingAt, noContract, noListing}
 use Rattle.rules.specs.WellFormed.{tradeInRange}
-use Rattle.rules.specs.declared.Contract.{Contract}
-use Rattle.rules.specs.declared.Trade.{Trade}
+use Rattle.rules.specs.declared.{Contract.Contract, Trade.Trade}
 use Rattle.audit.specs.Parts.{tested}
 
 -- ---- a trade

@@ -1,30 +1,21 @@
 -- The accounts in use, and what reading, booking and comparing them is on the accounts as they lie. Assumes nothing.
-use mathlib.Core.Bool.{Bool, true, false}
-use mathlib.Core.List.{List, [], _∷_, _++_, map, append-nil, append-assoc}
-use mathlib.Core.Path.{_≡_, refl, sym, ap, ap₂, _∙_}
-use Prim.Native.Nat.{ℕ, suc, _+_, _<_, _≤_}
-use native.Mathlib.Numerals.{add-one}
-use native.Mathlib.Omega.{arith}
-use borrow.Author.Tests.{eq-eqb, ne-eqb}
-use lib.ListN.{length, getD, set, take, drop, length-map, length-take, drop-of-length-le}
-use lib.Seq.{getD-at, set-at, take-suc, take-all, drop-cons, length-take-le, drop-length}
+use lib.Seq.{getD-at}
+use Rattle.laws.specs.Logic.{Bool, true, false, List, [], _∷_, _++_, map, append-nil, append-assoc, _≡_, refl, sym, ap, ap₂, _∙_}
+use Rattle.laws.specs.Numbers.{ℕ, suc, _+_, _<_, _≤_, add-one, arith, eq-eqb, ne-eqb, length, getD, set, take, drop, length-map, length-take, drop-of-length-le}
+use Rattle.laws.specs.Numbers.{length-take-le, take-all, take-suc, drop-cons, drop-length, set-at}
 use Rattle.rules.specs.Exchange.{accountAt, noAccount, noHolding}
 use Rattle.rules.specs.Holdings.{sameHoldings, sameLots, startAccount, startHolding, startOfDay}
 use Rattle.rules.specs.Memory.{inUse, used}
-use Rattle.rules.specs.declared.Account.{Account}
-use Rattle.rules.specs.declared.Holding.{Holding}
+use Rattle.rules.specs.declared.{Account.Account, Holding.Holding}
 use Rattle.rules.proofs.InUse.{length-used, used-at}
 use Rattle.audit.proofs.Walks.{next-in, next-of, none-in}
 
 -- ---- the start of the day
 
 -- four stores make the holdings of the start of the day
-pub four-starts : (hs : List Holding) {r₀ r₁ r₂ r₃ : Holding} → length hs ≡ 4
-    → r₀ ≡ startHolding (getD hs 0 noHolding)
-    → r₁ ≡ startHolding (getD (set hs 0 r₀) 1 noHolding)
-    → r₂ ≡ startHolding (getD (set (set hs 0 r₀) 1 r₁) 2 noHolding)
-    → r₃ ≡ startHolding (getD (set (set (set hs 0 r₀) 1 r₁) 2 r₂) 3 noHolding)
-    → set (set (set (set hs 0 r₀) 1 r₁) 2 r₂) 3 r₃ ≡ map startHolding hs
+pub four-starts : (hs : List Holding) {r₀ r₁ r₂ r₃ : Holding} → length hs ≡ 4 → r₀ ≡ startHolding (getD hs 0 noHolding)
+    → r₁ ≡ startHolding (getD (set hs 0 r₀) 1 noHolding) → r₂ ≡ startHolding (getD (set (set hs 0 r₀) 1 r₁) 2 noHolding)
+    → r₃ ≡ startHolding (getD (set (set (set hs 0 r₀) 1 r₁) 2 r₂) 3 noHolding) → set (set (set (set hs 0 r₀) 1 r₁) 2 r₂) 3 r₃ ≡ map startHolding hs
 four-starts [] l e₀ e₁ e₂ e₃ = refl
 four-starts (a ∷ []) l e₀ e₁ e₂ e₃ = absurd (omega arith)
 four-starts (a ∷ b ∷ []) l e₀ e₁ e₂ e₃ = absurd (omega arith)
@@ -118,8 +109,7 @@ module _ (k n : ℕ) where
   used-next : (l : List Account) (a : ℕ) → a < n → n ≤ length l → drop a (used k n l) ≡ inUse k (getD l a noAccount) ∷ drop (a + 1) (used k n l)
   unfolding accountAt
   used-next l a h m =
-      next-of (used k n l) a noAccount (rw (length-used k n l m) h)
-      ∙ ap (λ (x : Account). x ∷ drop (a + 1) (used k n l)) (used-at k n l a h)
+      next-of (used k n l) a noAccount (rw (length-used k n l m) h) ∙ ap (λ (x : Account). x ∷ drop (a + 1) (used k n l)) (used-at k n l a h)
 
   used-none : (l : List Account) (a : ℕ) → n ≤ a → drop a (used k n l) ≡ []
   used-none l a h = drop-of-length-le (used k n l) {i = a} (rw (length-map (take n l) (inUse k), length-take n l) (omega arith))

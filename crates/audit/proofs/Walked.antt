@@ -1,9 +1,7 @@
 -- The rules list the clauses one after the other; the audit walks over each contract once, and tests the makers' marks after the
 -- queues. Both ways pass the same states. Assumes nothing.
-use mathlib.Core.Bool.{Bool, true, _&&_}
-use mathlib.Core.List.{List, [], _∷_}
-use mathlib.Core.Path.{_≡_}
-use lib.ListN.{length, getD}
+use Rattle.laws.specs.Logic.{Bool, true, _&&_, List, [], _∷_, _≡_}
+use Rattle.laws.specs.Numbers.{length, getD}
 use Rattle.laws.specs.Choice.{all, allOf, allOf-at, allOf-imp, allOf-true, same-test}
 use Rattle.laws.specs.Chains.{Passed, all-passed, join}
 use Rattle.laws.specs.Tests.{chain}
@@ -45,8 +43,7 @@ reordered counters terms marks queues orders numbers stamps quotes trades replay
     rest : List Bool
     rest = trades ∷ replay ∷ holdings ∷ balances ∷ []
 
-pub walked : (x : Exchange) →
-    wellFormedContents x
+pub walked : (x : Exchange) → wellFormedContents x
     ≡ chain
     (countersInRange x
     ∷ allOf (listingInRange (length (x .accounts)) (x .next) (x .nextstamp)) (x .listings)

@@ -1,13 +1,7 @@
 -- Loops that walk a list or count up and leave at the first failure: `b` is the answer, and `f` of what is left of the list
 -- still decides it. Assumes nothing.
-use mathlib.Core.Bool.{Bool, true, false}
-use mathlib.Core.List.{List, [], _∷_}
-use mathlib.Core.Path.{_≡_, refl, sym, ap, _∙_, subst}
-use Prim.Native.Nat.{ℕ, _+_, _<_, _≤_}
-use native.Mathlib.Numerals.{add-one}
-use native.Mathlib.Omega.{arith}
-use lib.ListN.{length, getD, drop, take, length-take, drop-of-length-le}
-use lib.Seq.{drop-cons, getD-take, length-take-le}
+use Rattle.laws.specs.Logic.{Bool, true, false, List, [], _∷_, _≡_, refl, sym, ap, subst, _∙_}
+use Rattle.laws.specs.Numbers.{ℕ, _+_, _<_, _≤_, add-one, arith, length, getD, take, drop, length-take, drop-of-length-le, length-take-le, drop-cons, getD-take}
 use Rattle.laws.specs.Choice.{all, all-at, all-true, allOf, same-test}
 
 -- ---- a count from 0 to n, with the test p of each number
@@ -32,8 +26,7 @@ next-of l i d h = rw add-one (drop-cons l i d h)
 
 -- the same of the first n elements
 pub next-in : {A : Type 0} (n : ℕ) (l : List A) (i : ℕ) (d : A) → i < n → n ≤ length l → drop i (take n l) ≡ getD l i d ∷ drop (i + 1) (take n l)
-next-in n l i d h m =
-    next-of (take n l) i d (rw (length-take-le n l m) h) ∙ ap (λ x. x ∷ drop (i + 1) (take n l)) (getD-take n l i d h)
+next-in n l i d h m = next-of (take n l) i d (rw (length-take-le n l m) h) ∙ ap (λ x. x ∷ drop (i + 1) (take n l)) (getD-take n l i d h)
 
 pub none-in : {A : Type 0} (n : ℕ) (l : List A) (i : ℕ) → n ≤ i → drop i (take n l) ≡ []
 none-in n l i h = drop-of-length-le (take n l) {i = i} (rw length-take (omega arith))

@@ -1,13 +1,7 @@
 -- The clauses on a state's contents, each as the test that code makes of the state as it lies; and what a passed test gives the
 -- tests behind it. Assumes nothing.
-use mathlib.Core.Bool.{Bool, true, _&&_}
-use mathlib.Core.List.{List, [], _∷_, map}
-use mathlib.Core.Path.{_≡_, refl, ap₂, _∙_}
-use Prim.Native.Nat.{ℕ, zero, suc, _*_, _<_, _≤_}
-use native.Mathlib.Omega.{arith}
-use borrow.Author.Tests.{leb-true}
-use lib.Dec.{leb}
-use lib.ListN.{length, getD, take, length-map, length-replicate}
+use Rattle.laws.specs.Logic.{Bool, true, _&&_, List, [], _∷_, map, _≡_, refl, ap₂, _∙_}
+use Rattle.laws.specs.Numbers.{ℕ, zero, suc, _*_, _<_, _≤_, arith, leb-true, leb, length, getD, take, length-map, length-replicate}
 use Rattle.laws.specs.Choice.{all, allOf, all-at, all-ext, allOf-at, allOf-ext, allOf-map, both-true}
 use Rattle.laws.specs.Tabulate.{tabulate, allOf-table, length-tabulate, getD-tabulate}
 use Rattle.laws.specs.Tests.{Chain}
@@ -15,10 +9,7 @@ use Rattle.rules.specs.Bounds.{within, termsInRange}
 use Rattle.rules.specs.Exchange.{Exchange, Listing, listingAt, accountAt, holdingAt, noContract, noListing, noTrade}
 use Rattle.rules.specs.Memory.{Memory, exchangeOf, inUse, listingIn, recordedTrades, countsInRange, hasRoom, wellFormedMemory, used, memory, tradeStride}
 use Rattle.rules.specs.WellFormed.{countersInRange, allNumbers, allStamps, usedOnce, quotes, markAllowed, queueQuoted, listingQuoted, markInRange, tradeInRange, replays, holdingInRange, holdingsInRange, balanceInRange, wellFormedContents}
-use Rattle.rules.specs.declared.Account.{Account}
-use Rattle.rules.specs.declared.Order.{Order}
-use Rattle.rules.specs.declared.State.{State}
-use Rattle.rules.specs.declared.Trade.{Trade}
+use Rattle.rules.specs.declared.{Account.Account, Order.Order, State.State, Trade.Trade}
 use Rattle.rules.proofs.Codecs.{length-trades}
 use Rattle.rules.proofs.InUse.{length-used, used-holding}
 use Rattle.rules.proofs.Terms.{terms, terms-passed}

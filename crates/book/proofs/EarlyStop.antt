@@ -1,20 +1,12 @@
 -- Readers that stop at the first order that is no counterpart: their turns, the number of trades that a sweep makes, and that on a
 -- sorted queue they find what the rules say of the whole. Assumes nothing.
-use mathlib.Core.Bool.{Bool, true, false, not, _&&_}
-use mathlib.Core.List.{List, [], _∷_}
-use mathlib.Core.Logic.{_⊎_, inl, inr}
-use mathlib.Core.Path.{_≡_, refl, sym, _∙_}
-use Prim.Native.Nat.{ℕ, _+_, _-_, _<_}
-use native.Mathlib.Omega.{arith}
-use borrow.Author.Tests.{lt-ltb}
-use lib.Dec.{ltb}
-use lib.ListN.{length}
+use Rattle.laws.specs.Logic.{Bool, true, false, not, _&&_, List, [], _∷_, _⊎_, inl, inr, _≡_, refl, sym, _∙_}
+use Rattle.laws.specs.Numbers.{ℕ, _+_, _-_, _<_, arith, lt-ltb, ltb, length}
 use Rattle.laws.specs.Choice.{pick-true, pick-false, true-both, both-false}
 use Rattle.rules.specs.Exchange.{lotsWhere, bestPrice}
 use Rattle.rules.specs.Matching.{counterpart, fillable, sweep}
 use Rattle.rules.specs.WellFormed.{sorted}
-use Rattle.rules.specs.declared.Order.{Order}
-use Rattle.rules.specs.declared.Taker.{Taker}
+use Rattle.rules.specs.declared.{Order.Order, Taker.Taker}
 use Rattle.rules.proofs.Fillable.{none-met}
 use Rattle.rules.proofs.Queue.{lots-nil, lots-met, lots-unmet}
 use Rattle.rules.proofs.Sorted.{AllBehind, sorted-tail, sorted-behind, best-first}

@@ -1,14 +1,7 @@
 -- The places that the engine looks for in a queue: the first order that satisfies a test, where a new order goes, where a
 -- numbered one stands, and what the queue is with such a place known. Assumes nothing.
-use mathlib.Core.Bool.{Bool, true, false, not}
-use mathlib.Core.List.{List, [], _∷_, _++_}
-use mathlib.Core.Path.{_≡_, refl, sym, ap, _∙_}
-use Prim.Native.Nat.{ℕ, suc, _≤_, _<_}
-use native.Mathlib.Nat.{le-of-suc-le-suc}
-use native.Mathlib.Omega.{arith}
-use borrow.Author.Tests.{eqb-true, eqb-false, ne-eqb, not-true}
-use lib.Dec.{eqb}
-use lib.ListN.{length, getD}
+use Rattle.laws.specs.Logic.{Bool, true, false, not, List, [], _∷_, _++_, _≡_, refl, sym, ap, _∙_}
+use Rattle.laws.specs.Numbers.{ℕ, suc, _<_, _≤_, le-of-suc-le-suc, arith, eqb-true, eqb-false, ne-eqb, not-true, eqb, length, getD}
 use Rattle.laws.specs.Choice.{allOf, both-true}
 use Rattle.areas.specs.Lists.{insertAt, removeAt}
 use Rattle.rules.specs.Answers.{numbered}

@@ -1,16 +1,9 @@
 -- A pull: a queue walked from front to back, the orders that satisfy a test taken out and the others written closed up. What holds when i
 -- orders are read and `kept` of them are kept, what a turn does to it, and the end. Assumes nothing.
-use mathlib.Core.Bool.{Bool, true, false}
-use mathlib.Core.List.{List, [], _∷_, _++_, append-nil}
-use mathlib.Core.Path.{_≡_, refl, sym, ap, _∙_}
-use borrow.Author.Tests.{eq-eqb, ne-eqb}
 use borrow.Rule.Slice.PartMut.{putMid}
-use Prim.Native.Nat.{ℕ, _+_, _-_, _*_, _<_, _≤_}
-use native.Mathlib.Numerals.{add-one}
-use native.Mathlib.Omega.{arith}
-use lib.Dec.{eqb}
-use lib.ListN.{length, take, drop, getD, replicate, length-append}
-use lib.Seq.{take-all, take-suc}
+use Rattle.laws.specs.Logic.{Bool, true, false, List, [], _∷_, _++_, append-nil, _≡_, refl, sym, ap, _∙_}
+use Rattle.laws.specs.Numbers.{ℕ, _+_, _-_, _*_, _<_, _≤_, add-one, arith, eq-eqb, ne-eqb, eqb, length, getD, take, drop, replicate, length-append, take-all}
+use Rattle.laws.specs.Numbers.{take-suc}
 use Rattle.areas.specs.Lists.{over, padded}
 use Rattle.areas.specs.Records.{encode, store}
 use Rattle.areas.proofs.Lists.{drop-over}

@@ -1,14 +1,11 @@
 -- One queue of an area: the orders that code reads there in turn, and what the words that it writes there make of the queue.
 -- `part` is what a lent part of the area came back as. Assumes nothing.
-use mathlib.Core.Bool.{Bool, true, false}
-use mathlib.Core.List.{List, [], _∷_, _++_, append-nil}
-use mathlib.Core.Path.{_≡_, refl, sym, ap, _∙_}
 use borrow.Rule.Slice.PartMut.{putMid, post-is}
-use Prim.Native.Nat.{ℕ, _+_, _-_, _*_, _≤_, _<_}
-use native.Mathlib.Numerals.{add-one, one-add}
-use native.Mathlib.Omega.{arith}
-use lib.ListN.{length, take, drop, getD, set, length-drop, length-set, drop-of-length-le, take-append-drop}
-use lib.Seq.{sets, sets-eq, drop-at, drop-cons, drop-drop, drop-length, drop-set-add, length-take-le, take-all, take-set-le, take-take}
+use native.Mathlib.Numerals.{one-add}
+use lib.Seq.{sets, sets-eq, drop-set-add, take-set-le}
+use Rattle.laws.specs.Logic.{Bool, true, false, List, [], _∷_, _++_, append-nil, _≡_, refl, sym, ap, _∙_}
+use Rattle.laws.specs.Numbers.{ℕ, _+_, _-_, _*_, _<_, _≤_, add-one, arith, length, getD, set, take, drop, length-drop, length-set, take-append-drop}
+use Rattle.laws.specs.Numbers.{drop-of-length-le, length-take-le, take-all, take-take, drop-at, drop-cons, drop-drop, drop-length}
 use Rattle.areas.specs.Lists.{over, insertAt, removeAt, padded}
 use Rattle.areas.specs.Moves.{movedBack, closedUp}
 use Rattle.areas.specs.Records.{store}
@@ -49,8 +46,7 @@ put-over area s o part h e =
 
 module _ (area : List ℕ) (c n i : ℕ) where
   pub next-order : (o : Order) → i < n → o ≡ orderFrom (drop (firstWord c i) area) → drop i (queueIn area c n) ≡ o ∷ drop (i + 1) (queueIn area c n)
-  next-order o h e =
-      drop-cons (queueIn area c n) i noOrder (rw (length-queue area c n) h) ∙ rw (order-at area c n i h, e, add-one)
+  next-order o h e = drop-cons (queueIn area c n) i noOrder (rw (length-queue area c n) h) ∙ rw (order-at area c n i h, e, add-one)
 
   pub no-more : n ≤ i → drop i (queueIn area c n) ≡ []
   no-more h = drop-of-length-le (queueIn area c n) {i = i} (rw (length-queue area c n) h)

@@ -1,9 +1,7 @@
 -- The trade area: nine words for each trade of the day. Assumes nothing.
-use mathlib.Core.List.{List, [], _∷_}
-use mathlib.Core.Path.{_≡_}
-use Prim.Native.Nat.{ℕ, _+_, _≤_}
-use lib.ListN.{length}
 use lib.Seq.{sets}
+use Rattle.laws.specs.Logic.{List, [], _∷_, _≡_}
+use Rattle.laws.specs.Numbers.{ℕ, _+_, _≤_, length}
 use Rattle.areas.specs.Records.{store}
 use Rattle.areas.proofs.Lists.{sets-over}
 use Rattle.areas.proofs.Records.{encode-one}

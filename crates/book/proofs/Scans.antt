@@ -1,19 +1,13 @@
 -- What one order adds to the numbers that are read of a queue, in the terms of the code that reads it: fillable lots, the number
 -- of trades, an account's resting lots. Assumes nothing.
-use mathlib.Core.Bool.{Bool, true, false, not, _&&_}
-use mathlib.Core.List.{List, [], _∷_}
-use mathlib.Core.Path.{_≡_, sym, ap, _∙_}
-use Prim.Native.Nat.{ℕ, _+_, _-_, _≤_, min}
-use native.Mathlib.Omega.{arith}
-use borrow.Author.Tests.{eq-eqb, ne-eqb, not-true, not-false}
-use lib.Dec.{eqb}
+use Rattle.laws.specs.Logic.{Bool, true, false, not, _&&_, List, [], _∷_, _≡_, sym, ap, _∙_}
+use Rattle.laws.specs.Numbers.{ℕ, _+_, _-_, _≤_, min, arith, eq-eqb, ne-eqb, not-true, not-false, eqb}
 use Rattle.laws.specs.Choice.{pick, true-both, false-both, both-false}
 use Rattle.laws.specs.Sums.{sumOf}
 use Rattle.book.specs.EarlyStop.{fillableFront, countTrades}
 use Rattle.rules.specs.Exchange.{lotsWhere, resting}
 use Rattle.rules.specs.Matching.{counterpart}
-use Rattle.rules.specs.declared.Order.{Order}
-use Rattle.rules.specs.declared.Taker.{Taker}
+use Rattle.rules.specs.declared.{Order.Order, Taker.Taker}
 use Rattle.book.proofs.EarlyStop.{front-met, count-used, count-met}
 use Rattle.rules.proofs.Queue.{lots-nil, lots-met, lots-unmet, lots-append}
 

@@ -1,15 +1,9 @@
 -- The queue asked for as a part of its area: what each test of the code decides, and that the part holds just that queue.
 -- Assumes nothing.
-use mathlib.Core.Bool.{Bool, true, false, _||_}
-use mathlib.Core.List.{List, []}
-use mathlib.Core.Path.{_≡_, _∙_}
-use Prim.Native.Nat.{ℕ, _-_, _*_, _≤_, _<_}
 use native.Mathlib.Nat.{add-sub-cancel-left}
-use native.Mathlib.Omega.{arith}
-use borrow.Author.Tests.{eq-eqb, ne-eqb, lt-ltb, le-ltb, ltb-false}
-use lib.Dec.{eqb, ltb}
-use lib.ListN.{length, take, drop, getD, length-drop}
-use lib.Seq.{length-take-le}
+use Rattle.laws.specs.Logic.{Bool, true, false, _||_, List, [], _≡_, _∙_}
+use Rattle.laws.specs.Numbers.{ℕ, _-_, _*_, _<_, _≤_, arith, ltb-false, eq-eqb, ne-eqb, lt-ltb, le-ltb, eqb, ltb, length, getD, take, drop, length-drop}
+use Rattle.laws.specs.Numbers.{length-take-le}
 use Rattle.laws.specs.Choice.{pick, either-false}
 use Rattle.areas.proofs.Records.{records-part}
 use Rattle.rules.specs.Bounds.{maxResting}

@@ -1,17 +1,13 @@
 -- A loop that makes trades: what stands after those made and those still to come, and a trade that passes from these to those.
 -- Assumes nothing.
-use mathlib.Core.List.{List, [], _∷_}
-use mathlib.Core.Path.{_≡_, sym, ap, _∙_}
-use Prim.Native.Nat.{ℕ, suc, _+_, _*_, _≤_}
-use native.Mathlib.Omega.{arith}
-use lib.ListN.{length}
+use Rattle.laws.specs.Logic.{List, [], _∷_, _≡_, sym, ap, _∙_}
+use Rattle.laws.specs.Numbers.{ℕ, suc, _+_, _*_, _≤_, arith, length}
 use Rattle.areas.specs.Records.{store}
 use Rattle.areas.proofs.Records.{store-nil, store-append}
 use Rattle.rules.specs.Holdings.{bookTrade, bookTrades}
 use Rattle.rules.specs.Matching.{tradedLots, lastPrice}
 use Rattle.rules.specs.Memory.{tradeWords, tradeStride}
-use Rattle.rules.specs.declared.Account.{Account}
-use Rattle.rules.specs.declared.Trade.{Trade}
+use Rattle.rules.specs.declared.{Account.Account, Trade.Trade}
 use Rattle.rules.proofs.Codecs.{trade-codec}
 use Rattle.rules.proofs.Fillable.{traded-nil, traded-cons}
 use Rattle.book.specs.Trading.{AllBooked}

@@ -1,15 +1,9 @@
 -- "The sum of client closing and holding profit together equals the account's day profit". By the law of Article 32 each day's profit is
 -- what its legs sold for less what they cost, with the net lots at the settlement price and at the reference; legs and starting lots of
 -- the clients are together those of the account. Assumes nothing.
-use mathlib.Core.Bool.{Bool, true, false, not, _&&_, _||_, false≢true}
-use mathlib.Core.List.{List, [], _∷_, _++_, map}
-use mathlib.Core.Path.{_≡_, refl, sym, ap, ap₂, _∙_}
-use Prim.Native.Nat.{ℕ, zero, suc, _<_, _≤_}
-use native.Mathlib.Omega.{arith}
-use borrow.Author.Tests.{eqb-true, ne-eqb}
-use lib.Dec.{eqb}
 use lib.IntN.{ℤ, pos, _+ℤ_, _-ℤ_, _*ℤ_}
-use lib.ListN.{length}
+use Rattle.laws.specs.Logic.{Bool, true, false, not, _&&_, _||_, false≢true, List, [], _∷_, _++_, map, _≡_, refl, sym, ap, ap₂, _∙_}
+use Rattle.laws.specs.Numbers.{ℕ, zero, suc, _<_, _≤_, arith, eqb-true, ne-eqb, eqb, length}
 use Rattle.laws.specs.Choice.{pick, both-true, all-at, allOf}
 use Rattle.laws.specs.Ring.{d-eq, ring, *ℤ-add}
 use Rattle.laws.specs.Sums.{sumTo, sumTo-add, sumTo-at, sumTo-ext, sumTo-mul, sumTo-zero}
@@ -17,8 +11,7 @@ use Rattle.rules.specs.Bounds.{maxContracts}
 use Rattle.rules.specs.Exchange.{Exchange, Listing, holdingAt, listingAt}
 use Rattle.rules.specs.Settlement.{Leg, leg, only, legs, dayOf, holdingGain, settlementPrice, closingProfit, holdingProfit}
 use Rattle.rules.specs.WellFormed.{replays}
-use Rattle.rules.specs.declared.Holding.{Holding}
-use Rattle.rules.specs.declared.Trade.{Trade}
+use Rattle.rules.specs.declared.{Holding.Holding, Trade.Trade}
 use Rattle.accounting.specs.DayLegs.{flow, net}
 use Rattle.accounting.proofs.DayProfit.{day-profit, flow-append, net-append}
 use Rattle.accounting.proofs.Replay.{day-covered, replay-covered}
@@ -72,15 +65,12 @@ module _ (F : List Leg → ℤ) (nil : F [] ≡ pos 0) (add : (ls ms : List Leg)
         let p = both-true (tradePosted a (b .count) (b .postings) t) _ h in
         let q = both-true (not (eqb (t .buyer) a) || isPosted (b .count) (b .postings) (t .buyorder)) _ (p .0) in
         sumTo-ext n _ (λ k. F (boughtBy k c (clientTrade a (b .count) (b .postings) t)) +ℤ (F (soldBy k c (clientTrade a (b .count) (b .postings) t)) +ℤ F (legs k c (map (clientTrade a (b .count) (b .postings)) ts))))
-        (λ k l. add _ _ ∙ ap (λ (z : ℤ). F (boughtBy k c (clientTrade a (b .count) (b .postings) t)) +ℤ z) (add _ _))
-        ∙ sumTo-add n _ _
+        (λ k l. add _ _ ∙ ap (λ (z : ℤ). F (boughtBy k c (clientTrade a (b .count) (b .postings) t)) +ℤ z) (add _ _)) ∙ sumTo-add n _ _
         ∙ ap₂ (λ (u v : ℤ). u +ℤ v)
         (one-leg (eqb (t .contract) c) (eqb (t .buyer) a) _ (t .buyclose) (t .price) (t .lots) false (whose-place _ _ (q .0)))
-        (sumTo-add n _ _
-        ∙ ap₂ (λ (u v : ℤ). u +ℤ v)
+        (sumTo-add n _ _ ∙ ap₂ (λ (u v : ℤ). u +ℤ v)
         (one-leg (eqb (t .contract) c) (eqb (t .seller) a) _ (t .sellclose) (t .price) (t .lots) true (whose-place _ _ (q .1)))
-        (client-legs ts (p .1)))
-        ∙ sym (add _ _ ∙ ap (λ (z : ℤ). F (boughtBy a c t) +ℤ z) (add _ _))
+        (client-legs ts (p .1))) ∙ sym (add _ _ ∙ ap (λ (z : ℤ). F (boughtBy a c t) +ℤ z) (add _ _))
 
 -- ---- one contract
 
@@ -96,8 +86,7 @@ dayMoney s ref f d n = f +ℤ pos s *ℤ (d +ℤ n) -ℤ pos ref *ℤ d
 
 sum-money : (n s ref : ℕ) (f d k : ℕ → ℤ) → sumTo n (λ i. dayMoney s ref (f i) (d i) (k i)) ≡ dayMoney s ref (sumTo n f) (sumTo n d) (sumTo n k)
 sum-money n s ref f d k =
-    sumTo-sub n (λ i. f i +ℤ pos s *ℤ (d i +ℤ k i)) (λ i. pos ref *ℤ d i)
-    ∙ ap₂ (λ (u v : ℤ). u -ℤ v)
+    sumTo-sub n (λ i. f i +ℤ pos s *ℤ (d i +ℤ k i)) (λ i. pos ref *ℤ d i) ∙ ap₂ (λ (u v : ℤ). u -ℤ v)
     (sumTo-add n f (λ i. pos s *ℤ (d i +ℤ k i))
     ∙ ap (λ (z : ℤ). sumTo n f +ℤ z) (sumTo-mul n (pos s) (λ i. d i +ℤ k i) ∙ ap (λ (z : ℤ). pos s *ℤ z) (sumTo-add n d k)))
     (sumTo-mul n (pos ref) d)
@@ -125,13 +114,11 @@ module _ (x : Exchange) (r : replays x ≡ true) (contracts : length (x .listing
 
     net-starts : sumTo (b .count) netStart ≡ pos (holdingAt (x .accounts) a c .startlong) -ℤ pos (holdingAt (x .accounts) a c .startshort)
     net-starts =
-        sumTo-sub (b .count) (λ k. pos (startLong (b .starts) k c)) (λ k. pos (startShort (b .starts) k c))
-        ∙ ap₂ (λ (u v : ℤ). u -ℤ v)
+        sumTo-sub (b .count) (λ k. pos (startLong (b .starts) k c)) (λ k. pos (startShort (b .starts) k c)) ∙ ap₂ (λ (u v : ℤ). u -ℤ v)
         (total-pos (b .count) (λ k. startLong (b .starts) k c) ∙ ap pos (added .0))
         (total-pos (b .count) (λ k. startShort (b .starts) k c) ∙ ap pos (added .1))
 
-    client-money : (k : ℕ) → k < b .count
-        → dayOf cx k c .closing +ℤ holdingGain price (dayOf cx k c)
+    client-money : (k : ℕ) → k < b .count → dayOf cx k c .closing +ℤ holdingGain price (dayOf cx k c)
         ≡ dayMoney price reference (flow (legs k c (cx .trades))) (netStart k) (net (legs k c (cx .trades)))
     unfolding dayOf neverClosesMore
     client-money k l =
@@ -187,8 +174,6 @@ module _ (x : Exchange) (r : replays x ≡ true) (contracts : length (x .listing
   -- THE SUM OF THE CLIENTS' PROFIT
   pub clients-add-up : sumTo (b .count) (λ k. closingProfit cx k +ℤ holdingProfit cx k) ≡ closingProfit x a +ℤ holdingProfit x a
   clients-add-up =
-      sumTo-ext (b .count) _ _ (λ k l. client-parts k)
-      ∙ sumTo-swap (b .count) (length (x .listings)) (λ k c. times c *ℤ worth k c)
+      sumTo-ext (b .count) _ _ (λ k l. client-parts k) ∙ sumTo-swap (b .count) (length (x .listings)) (λ k c. times c *ℤ worth k c)
       ∙ sumTo-ext (length (x .listings)) _ (λ c. times c *ℤ (dayOf x a c .closing +ℤ holdingGain (settlementPrice x c) (dayOf x a c)))
-      (λ c l. sumTo-mul (b .count) (times c) (λ k. worth k c) ∙ ap (λ (z : ℤ). times c *ℤ z) (contract-adds c l))
-      ∙ sym (both-parts x a)
+      (λ c l. sumTo-mul (b .count) (times c) (λ k. worth k c) ∙ ap (λ (z : ℤ). times c *ℤ z) (contract-adds c l)) ∙ sym (both-parts x a)

@@ -1,13 +1,7 @@
 -- What the clients' exchange has at its places: a posted order's client is one of the clients, a client's lots at the start are those of
 -- the words read for it, and settlement prices are the day's. Assumes nothing.
-use mathlib.Core.Bool.{Bool, true, false}
-use mathlib.Core.List.{List, [], _∷_, map}
-use mathlib.Core.Path.{_≡_, refl, _∙_}
-use Prim.Native.Nat.{ℕ, _<_, _≤_}
-use native.Mathlib.Omega.{arith}
-use borrow.Author.Tests.{leb-true, lt-ltb}
-use lib.Dec.{eqb, leb}
-use lib.ListN.{length, getD}
+use Rattle.laws.specs.Logic.{Bool, true, false, List, [], _∷_, map, _≡_, refl, _∙_}
+use Rattle.laws.specs.Numbers.{ℕ, _<_, _≤_, arith, leb-true, lt-ltb, eqb, leb, length, getD}
 use Rattle.laws.specs.Choice.{pick, both-true}
 use Rattle.laws.specs.Sums.{sumOf}
 use Rattle.laws.specs.Tabulate.{tabulate, getD-tabulate}
@@ -15,8 +9,7 @@ use Rattle.rules.specs.Bounds.{maxContracts}
 use Rattle.rules.specs.Exchange.{Exchange, holdingAt, accountAt, noAccount, noHolding, listingAt}
 use Rattle.rules.specs.Matching.{tradedLots}
 use Rattle.rules.specs.Settlement.{tradesIn, tradedValue, weightedPrice, priceFrom, settlementPrice}
-use Rattle.rules.specs.declared.Order.{Order}
-use Rattle.rules.specs.declared.Trade.{Trade}
+use Rattle.rules.specs.declared.{Order.Order, Trade.Trade}
 use Rattle.rules.proofs.InUse.{used-holding}
 use Rattle.clients.specs.Clients.{Clients, isPosted, clientPlace, clientTrade, clientAccount, clientExchange, startHolding, posted, clientPlaces, maxClients}
 

@@ -1,13 +1,8 @@
 -- The day's trades with clients in the account's place, as a loop writes them into their area. Assumes nothing.
-use mathlib.Core.Bool.{Bool, true, false, not, _&&_, _||_}
-use mathlib.Core.List.{List, [], _∷_, _++_, map, append-nil}
-use mathlib.Core.Path.{_≡_, refl, sym, ap, ap₂, _∙_}
-use Prim.Native.Nat.{ℕ, _+_, _*_, _<_, _≤_}
-use native.Mathlib.Omega.{arith}
-use borrow.Author.Tests.{lt-ltb}
-use lib.Dec.{eqb, ltb}
-use lib.ListN.{length, getD, take, drop, length-append, length-map, take-append-drop, List·getD-append}
 use lib.Seq.{getD-append-seam}
+use Rattle.laws.specs.Logic.{Bool, true, false, not, _&&_, _||_, List, [], _∷_, _++_, map, append-nil, _≡_, refl, sym, ap, ap₂, _∙_}
+use Rattle.laws.specs.Numbers.{ℕ, _+_, _*_, _<_, _≤_, arith, lt-ltb, eqb, ltb, length, getD, take, drop, length-append, length-map, take-append-drop}
+use Rattle.laws.specs.Numbers.{List·getD-append}
 use Rattle.laws.specs.Choice.{pick, pick-true, allOf, allOf-append, allOf-stop, both-true}
 use Rattle.areas.specs.Records.{store}
 use Rattle.areas.proofs.Records.{store-append, store-nil, length-store, take-records}
@@ -50,8 +45,7 @@ unfolding legCount
 legs-more ts u =
     let f : ℕ → ℕ = λ i. legsIn (getD (ts ++ (u ∷ [])) i noTrade) in
     rw (length-append ts (u ∷ []))
-    (total-more f (length ts)
-    ∙ ap₂ (λ (x y : ℕ). x + y)
+    (total-more f (length ts) ∙ ap₂ (λ (x y : ℕ). x + y)
     (total-ext f (λ i. legsIn (getD ts i noTrade)) (length ts) (λ i l. ap legsIn (List·getD-append ts (u ∷ []) noTrade i l)))
     (ap legsIn (getD-append-seam ts u [] noTrade)))
 
@@ -111,8 +105,7 @@ module _ (a clients : ℕ) (postings trades : List ℕ) (count : ℕ) (area₀ :
         let day : List Trade = recordedTrades trades count in
         let front : before p day ≡ recordedTrades trades i =
         ap (before p) (sym (take-append-drop i day) ∙ ap₂ (λ (xs ys : List Trade). xs ++ ys) (first-trades trades count i l) (next-trade trades count i l e))
-        ∙ before-append p (recordedTrades trades i) (t ∷ drop (i + 1) day) (g .all)
-        ∙ rw f (append-nil (recordedTrades trades i)) in
+        ∙ before-append p (recordedTrades trades i) (t ∷ drop (i + 1) day) (g .all) ∙ rw f (append-nil (recordedTrades trades i)) in
         record {
           all = sym (allOf-stop p day i noTrade (rw (length-trades trades count) l) (ap p (trade-at trades count i l ∙ sym e) ∙ f));
           content = g .content ∙ ap (λ (ts : List Trade). store tradeWords area₀ 0 (map (clientTrade a clients postings) ts)) (sym front);
@@ -122,8 +115,7 @@ module _ (a clients : ℕ) (postings trades : List ℕ) (count : ℕ) (area₀ :
     module _ (u : Trade) (w : u ≡ clientTrade a clients postings t) where
       one-more : clientTrades a clients postings trades (i + 1) ≡ clientTrades a clients postings trades i ++ (u ∷ [])
       one-more =
-          ap (map (clientTrade a clients postings)) (more-trades trades i t e)
-          ∙ map-more (clientTrade a clients postings) (recordedTrades trades i) t
+          ap (map (clientTrade a clients postings)) (more-trades trades i t e) ∙ map-more (clientTrade a clients postings) (recordedTrades trades i) t
           ∙ ap (λ (v : Trade). clientTrades a clients postings trades i ++ (v ∷ [])) (sym w)
 
       so-many : length (clientTrades a clients postings trades i) ≡ i
@@ -144,8 +136,7 @@ module _ (a clients : ℕ) (postings trades : List ℕ) (count : ℕ) (area₀ :
             counted = rw one-more (omega (arith, g .counted, legs-more (clientTrades a clients postings trades i) u));
             few = omega (arith, g .few);
             all = ap (allOf (tradePosted a clients postings)) (more-trades trades i t e)
-                ∙ allOf-append (tradePosted a clients postings) (recordedTrades trades i) (t ∷ [])
-                ∙ rw (g .all, p);
+                ∙ allOf-append (tradePosted a clients postings) (recordedTrades trades i) (t ∷ []) ∙ rw (g .all, p);
           }
 
   pub all-posted : (i legs : ℕ) (area : List ℕ) → count ≤ i → Going i legs area
@@ -156,8 +147,7 @@ module _ (a clients : ℕ) (postings trades : List ℕ) (count : ℕ) (area₀ :
       let every : allOf p (recordedTrades trades count) ≡ true = ap (λ (n : ℕ). allOf p (recordedTrades trades n)) (sym e) ∙ g .all in
       record {
         all = sym every;
-        content = g .content
-            ∙ ap (λ (n : ℕ). store tradeWords area₀ 0 (clientTrades a clients postings trades n)) e
+        content = g .content ∙ ap (λ (n : ℕ). store tradeWords area₀ 0 (clientTrades a clients postings trades n)) e
             ∙ ap (λ (ts : List Trade). store tradeWords area₀ 0 (map (clientTrade a clients postings) ts)) (sym (before-all p (recordedTrades trades count) every));
         legs = g .counted ∙ ap (λ (n : ℕ). legCount (clientTrades a clients postings trades n)) e;
       }
@@ -166,8 +156,7 @@ module _ (a clients : ℕ) (postings trades : List ℕ) (count : ℕ) (area₀ :
 module _ {a clients : ℕ} {postings trades : List ℕ} {count : ℕ} {area : List ℕ} {r : Posting} {area′ : List ℕ} (q : PostingIs a clients postings trades count area r area′) (t : r .all ≡ true) where
   pub posted-content : area′ ≡ store tradeWords area 0 (clientTrades a clients postings trades count)
   posted-content =
-      q .content
-      ∙ ap (λ (ts : List Trade). store tradeWords area 0 (map (clientTrade a clients postings) ts))
+      q .content ∙ ap (λ (ts : List Trade). store tradeWords area 0 (map (clientTrade a clients postings) ts))
       (before-all (tradePosted a clients postings) (recordedTrades trades count) (sym (q .all) ∙ t))
 
   pub posted-legs : r .legs ≡ legCount (clientTrades a clients postings trades count)

@@ -1,12 +1,6 @@
 -- The postings of an order, as a loop meets them, and the client they give it. Assumes nothing.
-use mathlib.Core.Bool.{Bool, _&&_}
-use mathlib.Core.List.{List, [], _∷_, _++_, append-nil}
-use mathlib.Core.Path.{_≡_, refl, sym, ap, _∙_}
-use Prim.Native.Nat.{ℕ, _+_, _-_, _*_, _/_, _<_, _≤_}
-use native.Mathlib.Omega.{arith}
-use borrow.Author.Tests.{eq-eqb, ne-eqb, le-leb, lt-leb}
-use lib.Dec.{eqb, leb}
-use lib.ListN.{length, getD, length-append}
+use Rattle.laws.specs.Logic.{Bool, _&&_, List, [], _∷_, _++_, append-nil, _≡_, refl, sym, ap, _∙_}
+use Rattle.laws.specs.Numbers.{ℕ, _+_, _-_, _*_, _/_, _<_, _≤_, arith, eq-eqb, ne-eqb, le-leb, lt-leb, eqb, leb, length, getD, length-append}
 use Rattle.laws.specs.Choice.{pick}
 use Rattle.rules.specs.declared.Trade.{Trade}
 use Rattle.sections.specs.Sections.{inRow}
@@ -34,12 +28,7 @@ module _ (postings : List ℕ) (number : ℕ) where
     met-other h =
         let e : inRow (i + 1) (postedTo postings number) ≡ inRow i (postedTo postings number) =
         met-row [] (rw (ne-eqb (getD postings (2 * i) 0) number h)) ∙ append-nil _ in
-        record {
-          within = omega arith;
-          few = omega (arith, m .few);
-          count = m .count ∙ ap length (sym e);
-          one = λ t. e ∙ m .one t;
-        }
+        record { within = omega arith; few = omega (arith, m .few); count = m .count ∙ ap length (sym e); one = λ t. e ∙ m .one t }
 
     pub met-more : getD postings (2 * i) 0 ≡ number → Met (i + 1) (times + 1) (getD postings (2 * i + 1) 0)
     unfolding postedTo
@@ -91,10 +80,8 @@ legs-counted t buys sells e f = rw (e, f)
 
 pub as-clients : (t : Trade) (a clients : ℕ) (postings : List ℕ) (buyer seller buyclose sellclose : ℕ)
     → buyer ≡ pick (eqb (t .buyer) a) (clientPlace clients postings (t .buyorder)) others
-    → seller ≡ pick (eqb (t .seller) a) (clientPlace clients postings (t .sellorder)) others
-    → buyclose ≡ pick (eqb (t .buyer) a) (t .buyclose) 0
-    → sellclose ≡ pick (eqb (t .seller) a) (t .sellclose) 0
-    → record {
+    → seller ≡ pick (eqb (t .seller) a) (clientPlace clients postings (t .sellorder)) others → buyclose ≡ pick (eqb (t .buyer) a) (t .buyclose) 0
+    → sellclose ≡ pick (eqb (t .seller) a) (t .sellclose) 0 → record {
       contract = t .contract;
       price = t .price;
       lots = t .lots;

@@ -1,13 +1,7 @@
 -- The clients as accounts: their words read, their lots added up, and their starting holdings. Assumes nothing.
-use mathlib.Core.Bool.{Bool, true, false, _&&_}
-use mathlib.Core.List.{List, [], _∷_, _++_, append-nil}
-use mathlib.Core.Path.{_≡_, sym, ap, _∙_}
-use Prim.Native.Nat.{ℕ, _+_, _*_, _<_, _≤_}
-use native.Mathlib.Omega.{arith}
-use borrow.Author.Tests.{le-ltb, lt-ltb, eq-eqb, ne-eqb}
-use lib.Dec.{eqb, ltb}
 use lib.IntN.{pos}
-use lib.ListN.{length, getD, drop-of-length-le}
+use Rattle.laws.specs.Logic.{Bool, true, false, _&&_, List, [], _∷_, _++_, append-nil, _≡_, sym, ap, _∙_}
+use Rattle.laws.specs.Numbers.{ℕ, _+_, _*_, _<_, _≤_, arith, eq-eqb, ne-eqb, lt-ltb, le-ltb, eqb, ltb, length, getD, drop-of-length-le}
 use Rattle.laws.specs.Choice.{pick, all, all-none, all-more, all-stop, false-both, both-false, true-both}
 use Rattle.laws.specs.Tabulate.{tabulate}
 use Rattle.laws.specs.Written.{written, Writing, writing-done}
@@ -29,8 +23,7 @@ module _ (f : ℕ → ℕ) (clients : ℕ) where
   adding-none = record { within = omega arith; sum = sym (total-none f); small = omega arith }
 
   pub adding-more : (k lots word : ℕ) → k < clients → word ≡ f k → word < 4_294_967_296 → Adding f clients k lots → Adding f clients (k + 1) (lots + word)
-  adding-more k lots word l e b w =
-      record { within = omega arith; sum = omega (arith, w .sum, total-more f k); small = omega (arith, w .small) }
+  adding-more k lots word l e b w = record { within = omega arith; sum = omega (arith, w .sum, total-more f k); small = omega (arith, w .small) }
 
   pub adding-done : (k lots : ℕ) → clients ≤ k → Adding f clients k lots → lots ≡ total clients f
   adding-done k lots l w = let e : k ≡ clients = omega (arith, w .within) in w .sum ∙ ap (λ (n : ℕ). total n f) e
@@ -60,14 +53,12 @@ module _ (starts : List ℕ) (clients : ℕ) (holdings : List Holding) (contract
     long-lots = w ∙ ap (λ (g : Holding). g .startlong) e
 
     pub long-differs : (sum ≡ lots → ⊥) → false ≡ all addsUp contracts
-    long-differs d =
-        sym (all-stop addsUp c contracts l (false-both (longAdds c) (shortAdds c) (rw (← s, ← long-lots) (ne-eqb sum lots d))))
+    long-differs d = sym (all-stop addsUp c contracts l (false-both (longAdds c) (shortAdds c) (rw (← s, ← long-lots) (ne-eqb sum lots d))))
 
     module _ (same : sum ≡ lots) (sum′ lots′ : ℕ) (s′ : sum′ ≡ total clients (λ k. getD starts (8 * k + (2 * c + 1)) 0)) (w′ : lots′ ≡ h .startshort) where
       short-sum : sum′ ≡ total clients (λ k. startShort starts k c)
       short-sum =
-          s′
-          ∙ total-ext (λ k. getD starts (8 * k + (2 * c + 1)) 0) (λ k. startShort starts k c) clients
+          s′ ∙ total-ext (λ k. getD starts (8 * k + (2 * c + 1)) 0) (λ k. startShort starts k c) clients
           (λ k q. let z : 8 * k + (2 * c + 1) ≡ 8 * k + 2 * c + 1 = omega arith in ap (λ (n : ℕ). getD starts n 0) z)
 
       short-lots : lots′ ≡ getD holdings c noHolding .startshort
@@ -110,6 +101,4 @@ module _ (starts : List ℕ) (clients k : ℕ) where
 pub all-written : {A : Type 0} (f : ℕ → A) (l next : List A) (n k : ℕ) → length l ≡ n → n ≤ k → Writing f l n k next → next ≡ tabulate n f
 unfolding written
 all-written {A} f l next n k e h w =
-    writing-done f l n k next h w
-    ∙ ap (λ (r : List A). tabulate n f ++ r) (drop-of-length-le l {i = n} (omega arith))
-    ∙ append-nil _
+    writing-done f l n k next h w ∙ ap (λ (r : List A). tabulate n f ++ r) (drop-of-length-le l {i = n} (omega arith)) ∙ append-nil _

@@ -1,12 +1,6 @@
 -- What is added up, one by one, for the loops that do so. Assumes nothing.
-use mathlib.Core.List.{List}
-use mathlib.Core.Path.{_≡_, refl, ap₂, _∙_}
-use Prim.Native.Nat.{ℕ, zero, suc, _+_, _*_, _<_, _≤_}
-use native.Mathlib.Numerals.{add-one}
-use native.Mathlib.Omega.{arith}
-use native.Mathlib.Nat.{mul-suc, le-of-suc-le-suc, eq-or-lt-of-le}
-use mathlib.Core.Logic.{⊎-elim}
-use lib.ListN.{length, length-append}
+use Rattle.laws.specs.Logic.{List, ⊎-elim, _≡_, refl, ap₂, _∙_}
+use Rattle.laws.specs.Numbers.{ℕ, zero, suc, _+_, _*_, _<_, _≤_, le-of-suc-le-suc, eq-or-lt-of-le, mul-suc, add-one, arith, length, length-append}
 use Rattle.sections.specs.Sections.{inRow}
 use Rattle.clients.specs.Clients.{total}
 

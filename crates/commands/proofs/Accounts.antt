@@ -1,8 +1,6 @@
 -- The place of the account that a command names, as the code finds it. Assumes nothing.
-use mathlib.Core.Logic.{_≢_}
-use mathlib.Core.Path.{_≡_, sym, ap, _∙_}
-use Prim.Native.Nat.{ℕ, _-_, _<_, _≤_}
-use borrow.Author.Tests.{le-ltb, lt-ltb, ne-eqb}
+use Rattle.laws.specs.Logic.{_≢_, _≡_, sym, ap, _∙_}
+use Rattle.laws.specs.Numbers.{ℕ, _-_, _<_, _≤_, ne-eqb, lt-ltb, le-ltb}
 use Rattle.rules.specs.declared.Command.{Command}
 use Rattle.commands.specs.Accounts.{accountNumber, accountPlace}
 

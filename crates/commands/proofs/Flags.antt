@@ -1,12 +1,9 @@
 -- Fields that are to be zero, one after the other, and bits of a flags byte as shifts and masks read them. Assumes nothing.
-use mathlib.Core.Bool.{false, and-true}
-use mathlib.Core.List.{List, [], _∷_}
-use mathlib.Core.Path.{_≡_, sym, ap, _∙_}
-use Prim.Native.Nat.{ℕ, _/_, _%_, _-_, _^_}
+use mathlib.Core.Bool.{and-true}
 use native.Mathlib.Nat.{div-one}
-use lib.Dec.{eqb}
 use lib.Bits.{bitAnd, and-mask}
-use borrow.Author.Tests.{eq-eqb, ne-eqb}
+use Rattle.laws.specs.Logic.{false, List, [], _∷_, _≡_, sym, ap, _∙_}
+use Rattle.laws.specs.Numbers.{ℕ, _-_, _/_, _%_, _^_, eq-eqb, ne-eqb, eqb}
 use Rattle.laws.specs.Choice.{allOf}
 use Rattle.rules.specs.Command.{zeros, bits}
 

@@ -1,12 +1,6 @@
 -- A count as a reader of any bytes takes it: what it says where it is not 0, and where it is. Assumes nothing.
-use mathlib.Core.Bool.{Bool, true, false, _&&_}
-use mathlib.Core.List.{List}
-use mathlib.Core.Path.{_≡_, refl, sym, _∙_}
-use Prim.Native.Nat.{ℕ, _-_, _≤_, _<_}
-use native.Mathlib.Omega.{arith}
-use lib.Dec.{leb}
-use lib.ListN.{length}
-use borrow.Author.Tests.{leb-true, le-leb, lt-leb}
+use Rattle.laws.specs.Logic.{Bool, true, false, _&&_, List, _≡_, refl, sym, _∙_}
+use Rattle.laws.specs.Numbers.{ℕ, _-_, _<_, _≤_, arith, leb-true, le-leb, lt-leb, leb, length}
 use Rattle.laws.specs.Choice.{pick-true, pick-false, both-true, both-false, false-both, true-both}
 use Rattle.rules.specs.DayFile.{u32At, countWidth}
 use Rattle.dayfile.specs.FileHead.{countBefore}

@@ -1,11 +1,6 @@
 -- A list filled from the front, one store a turn: the values of f in the first k places, z in the others. Assumes nothing.
-use mathlib.Core.List.{List, [], _∷_, _++_, append-assoc}
-use mathlib.Core.Path.{_≡_, refl, sym, ap}
-use Prim.Native.Nat.{ℕ, zero, suc, _+_, _-_, _<_}
-use native.Mathlib.Numerals.{add-one}
-use native.Mathlib.Omega.{arith}
-use lib.ListN.{length, set, replicate}
-use lib.Seq.{set-at}
+use Rattle.laws.specs.Logic.{List, [], _∷_, _++_, append-assoc, _≡_, refl, sym, ap}
+use Rattle.laws.specs.Numbers.{ℕ, zero, suc, _+_, _-_, _<_, add-one, arith, length, set, replicate, set-at}
 use Rattle.areas.specs.Lists.{padded}
 use Rattle.areas.proofs.Lists.{padded-nil}
 use Rattle.laws.specs.Tabulate.{tabulate, length-tabulate}

@@ -1,8 +1,6 @@
 -- A day file opened: broken, and sound. Assumes nothing.
-use mathlib.Core.Bool.{true, false}
-use mathlib.Core.List.{List}
-use mathlib.Core.Path.{_≡_}
-use Prim.Native.Nat.{ℕ}
+use Rattle.laws.specs.Logic.{true, false, List, _≡_}
+use Rattle.laws.specs.Numbers.{ℕ}
 use Rattle.rules.specs.DayFile.{commandPlace, commandsIn, sound}
 use Rattle.rules.specs.declared.State.{State}
 use Rattle.dayfile.specs.Opening.{openingState}

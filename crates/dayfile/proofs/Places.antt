@@ -1,13 +1,7 @@
 -- Where the parts of a day file lie, and what a sound head and a sound file tell their reader: the counts' ranges, the length,
 -- that each record spoken of lies within it. Assumes nothing.
-use mathlib.Core.Bool.{Bool, true, false, true≢false, _&&_}
-use mathlib.Core.List.{List}
-use mathlib.Core.Path.{_≡_, refl, sym, ap, _∙_, ap₂}
-use Prim.Native.Nat.{ℕ, _+_, _-_, _*_, _%_, _≤_, _<_}
-use native.Mathlib.Omega.{arith}
-use lib.Dec.{leb, eqb}
-use lib.ListN.{length, getD}
-use borrow.Author.Tests.{leb-true, le-leb, lt-leb, eqb-true}
+use Rattle.laws.specs.Logic.{Bool, true, false, _&&_, true≢false, List, _≡_, refl, sym, ap, ap₂, _∙_}
+use Rattle.laws.specs.Numbers.{ℕ, _+_, _-_, _*_, _%_, _<_, _≤_, arith, eqb-true, leb-true, le-leb, lt-leb, eqb, leb, length, getD}
 use Rattle.laws.specs.Choice.{pick, all, both-true, same-test, all-at}
 use Rattle.laws.specs.Tabulate.{getD-tabulate}
 use Rattle.rules.specs.Bounds.{within, maxBalance, maxContracts, maxAccounts}
@@ -183,8 +177,7 @@ asked-first n e l c a h =
     let r = both-true (l && c) a (q .0) in
     rw (q .1, p .1, both-true l c (r .0) .1, r .1))
 
-counts-first : (s t n e l c a : Bool) → (e ≡ true → l ≡ true)
-    → (s && t && n && e && c && a) ≡ (s && t && l && c && a && n && e)
+counts-first : (s t n e l c a : Bool) → (e ≡ true → l ≡ true) → (s && t && n && e && c && a) ≡ (s && t && l && c && a && n && e)
 counts-first false t n e l c a h = refl
 counts-first true false n e l c a h = refl
 counts-first true true n e l c a h = asked-first n e l c a h
@@ -244,7 +237,6 @@ module _ (file : List ℕ) where
     command-within k l = let s = sound-layout in omega (arith, command-place file k)
 
 -- the k-th of the file's commands
-pub command-of : (file : List ℕ) (k : ℕ) (d : Command) → k < commandsIn file
-    → getD (commandsOf file) k d ≡ commandFrom file (commandPlace file k)
+pub command-of : (file : List ℕ) (k : ℕ) (d : Command) → k < commandsIn file → getD (commandsOf file) k d ≡ commandFrom file (commandPlace file k)
 unfolding commandsOf
 command-of file k d h = getD-tabulate (commandsIn file) k (λ k. commandFrom file (commandPlace file k)) d h

@@ -1,12 +1,7 @@
 -- The opening state in memory is the opening exchange, whatever stands in the areas lent with it: none of their places is in
 -- use. Assumes nothing.
-use mathlib.Core.Bool.{true}
-use mathlib.Core.List.{List, _∷_, map}
-use mathlib.Core.Path.{_≡_, refl, ap, _∙_}
-use Prim.Native.Nat.{ℕ, zero, suc, _≤_, _<_}
-use native.Mathlib.Nat.{le-of-suc-le-suc, not-suc-le-zero}
-use native.Mathlib.Omega.{arith}
-use lib.ListN.{getD, take, replicate, getD-replicate}
+use Rattle.laws.specs.Logic.{true, List, _∷_, map, _≡_, refl, ap, _∙_}
+use Rattle.laws.specs.Numbers.{ℕ, zero, suc, _<_, _≤_, le-of-suc-le-suc, not-suc-le-zero, arith, getD, take, replicate, getD-replicate}
 use Rattle.areas.specs.Lists.{padded}
 use Rattle.areas.proofs.Lists.{getD-padded, take-padded}
 use Rattle.laws.specs.Tabulate.{tabulate, length-tabulate, getD-tabulate, tabulate-below, map-tabulate}

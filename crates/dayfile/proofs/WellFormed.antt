@@ -1,13 +1,7 @@
 -- A sound file's opening state in memory is well formed, in areas that have room, where the opening exchange is (which crate
 -- `invariants` shows). Assumes nothing.
-use mathlib.Core.Bool.{true}
-use mathlib.Core.List.{List}
-use mathlib.Core.Path.{_≡_}
-use Prim.Native.Nat.{ℕ, _*_, _≤_, _<_}
-use native.Mathlib.Omega.{arith}
-use lib.Dec.{leb}
-use lib.ListN.{length, getD, replicate, getD-replicate}
-use borrow.Author.Tests.{le-leb}
+use Rattle.laws.specs.Logic.{true, List, _≡_}
+use Rattle.laws.specs.Numbers.{ℕ, _*_, _<_, _≤_, arith, le-leb, leb, length, getD, replicate, getD-replicate}
 use Rattle.laws.specs.Choice.{all, all-true}
 use Rattle.rules.specs.Bounds.{maxResting, maxContracts}
 use Rattle.rules.specs.DayFile.{contractsIn, accountsIn, opening, sound}
@@ -48,7 +42,6 @@ module _ (file buys sells trades : List ℕ) (h : sound file ≡ true) (room-buy
       let e = le-leb (queueStride * contractsIn file) (length sells) (omega arith) in
       rw (b, e) (le-leb tradesWords (length trades) room-trades)
 
-  pub opening-memory-well-formed : wellFormedContents (opening file) ≡ true
-      → wellFormedMemory (openingMemory file buys sells trades) ≡ true
+  pub opening-memory-well-formed : wellFormedContents (opening file) ≡ true → wellFormedMemory (openingMemory file buys sells trades) ≡ true
   unfolding wellFormedMemory
   opening-memory-well-formed contents = rw (counts-ok, room-ok, opening-exchange file buys sells trades h) contents

@@ -1,12 +1,8 @@
 -- First in, first out, without a queue: after covered legs the open batches of a side are the batches ever open without the
 -- first lots, as many as were closed, and those are what the closes took. Assumes nothing.
-use mathlib.Core.Bool.{Bool, true, false}
-use mathlib.Core.List.{List, [], _∷_, _++_, append-nil, append-assoc}
-use mathlib.Core.Path.{_≡_, refl, sym, ap, _∙_}
-use Prim.Native.Nat.{ℕ, _+_, _-_, _*_, _≤_, min}
-use native.Mathlib.Nat.{add-zero, zero-add, add-assoc, mul-add}
-use native.Mathlib.Omega.{arith}
 use lib.IntN.{ℤ, pos, _+ℤ_, _-ℤ_, _*ℤ_}
+use Rattle.laws.specs.Logic.{Bool, true, false, List, [], _∷_, _++_, append-nil, append-assoc, _≡_, refl, sym, ap, _∙_}
+use Rattle.laws.specs.Numbers.{ℕ, _+_, _-_, _*_, _≤_, min, add-zero, zero-add, add-assoc, mul-add, arith}
 use Rattle.laws.specs.Ring.{d-eq, ring}
 use Rattle.laws.specs.Sums.{sumOf, sumOf-append}
 use Rattle.rules.specs.Article32.{lotsIn}
@@ -123,17 +119,11 @@ pub record OneSide (bs : List Batch) (closed : ℕ) (ever : List Batch) : Type 0
 module _ {bs : List Batch} {n : ℕ} {ever : List Batch} (w : OneSide bs n ever) where
   side-opened : (b : Batch) → OneSide (bs ++ (b ∷ [])) (n + 0) (ever ++ (b ∷ []))
   side-opened b =
-      record {
-        left = rw (add-zero n, other-behind n ever (b ∷ []) (w .few), w .left);
-        few = omega (arith, lots-append ever (b ∷ []), w .few);
-      }
+      record { left = rw (add-zero n, other-behind n ever (b ∷ []) (w .few), w .left); few = omega (arith, lots-append ever (b ∷ []), w .few) }
 
   side-closed : (k : ℕ) → k ≤ lotsIn bs → OneSide (otherLots k bs) (n + k) (ever ++ [])
   side-closed k h =
-      record {
-        left = rw (append-nil ever, w .left) (other-other n k ever);
-        few = rw (append-nil ever) (omega (arith, w .few, left-lots));
-      }
+      record { left = rw (append-nil ever, w .left) (other-other n k ever); few = rw (append-nil ever) (omega (arith, w .few, left-lots)) }
     where
       left-lots : lotsIn bs ≡ lotsIn ever - n
       left-lots = ap lotsIn (w .left) ∙ lots-other n ever

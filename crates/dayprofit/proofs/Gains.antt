@@ -1,23 +1,17 @@
 -- One account's profit in one contract from its sums of legs, side by side, with the bounds of those sums. Assumes nothing.
-use mathlib.Core.Bool.{Bool, true, false, not}
-use mathlib.Core.List.{List, _∷_}
-use mathlib.Core.Path.{_≡_, refl, sym, ap, subst, _∙_}
-use Prim.Native.Nat.{ℕ, _+_, _-_, _*_, _<_, _≤_, min}
-use native.Mathlib.Nat.{mul-le-mul-left, mul-le-mul-right, le-trans}
-use native.Mathlib.Omega.{arith}
 use lib.IntN.{ℤ}
-use lib.ListN.{getD}
 use mir.Facts.{fits-below, toZ-ofZ}
 use mir.Syntax.{w64}
 use mir.Val.{Fits, SFits, toZ, ofZ}
+use Rattle.laws.specs.Logic.{Bool, true, false, not, List, _∷_, _≡_, refl, sym, ap, subst, _∙_}
+use Rattle.laws.specs.Numbers.{ℕ, _+_, _-_, _*_, _<_, _≤_, min, le-trans, mul-le-mul-left, mul-le-mul-right, arith, getD}
 use Rattle.laws.specs.Bound.{within-diff}
 use Rattle.laws.specs.Sums.{sumOf}
 use Rattle.rules.specs.Article32.{lotsIn}
 use Rattle.rules.specs.Exchange.{Exchange, contractAt, heldAt}
 use Rattle.rules.specs.Memory.{recordedTrades}
 use Rattle.rules.specs.Settlement.{Leg, Batch, dayStart, afterLegs, dayOf, legs, firstLots, otherLots, holdingGain}
-use Rattle.rules.specs.declared.Holding.{Holding}
-use Rattle.rules.specs.declared.Trade.{Trade}
+use Rattle.rules.specs.declared.{Holding.Holding, Trade.Trade}
 use Rattle.accounting.proofs.DayProfit.{lots-other}
 use Rattle.dayprofit.specs.Sides.{closedLots, closedValue, openedToday, everOpen, cost, Profitable, sideFrom, closingFrom, holdingFrom, SumsSmall, SideSmall, ProfitFrom}
 use Rattle.dayprofit.specs.Slots.{slotOf, SumsAre, UsedAre, Rooms, sumsAt, DaySmall}

@@ -1,16 +1,10 @@
 -- The legs of the day's trades by kind: their lots and value, one trade after the other, and how far those sums reach. Assumes
 -- nothing.
-use mathlib.Core.Bool.{Bool, true, false, not, _&&_}
-use mathlib.Core.List.{List, [], _∷_, _++_, append-nil, append-assoc}
-use mathlib.Core.Path.{_≡_, refl, sym, ap, _∙_}
-use Prim.Native.Nat.{ℕ, _+_, _*_, _≤_}
-use native.Mathlib.Nat.{mul-add, mul-le-mul-left, mul-le-mul-right, le-trans}
-use native.Mathlib.Omega.{arith}
-use lib.Dec.{eqb}
-use lib.ListN.{length, getD}
 use mir.Facts.{fits-below}
 use mir.Syntax.{w32, w64}
 use mir.Val.{Fits}
+use Rattle.laws.specs.Logic.{Bool, true, false, not, _&&_, List, [], _∷_, _++_, append-nil, append-assoc, _≡_, refl, sym, ap, _∙_}
+use Rattle.laws.specs.Numbers.{ℕ, _+_, _*_, _≤_, le-trans, mul-add, mul-le-mul-left, mul-le-mul-right, arith, eqb, length, getD}
 use Rattle.laws.specs.Choice.{pick, pick-same}
 use Rattle.laws.specs.Sums.{sumOf, sumOf-append}
 use Rattle.rules.specs.Article32.{lotsIn}
@@ -95,15 +89,13 @@ module _ (a c : ℕ) (t : Trade) where
 
   trade-value : (sell close : Bool) → sumOf (valueIf sell close) (legs a c (t ∷ [])) ≡ t .price * sumOf (lotsIf sell close) (legs a c (t ∷ []))
   trade-value sell close =
-      legs-measure (valueIf sell close)
-      ∙ rw (
+      legs-measure (valueIf sell close) ∙ rw (
         leg-value sell close false (not (eqb (t .buyclose) 0)) (t .price) (t .lots),
         leg-value sell close true (not (eqb (t .sellclose) 0)) (t .price) (t .lots),
         pick-times buys (t .price) (lotsIf sell close (buyLeg t)),
         pick-times sells (t .price) (lotsIf sell close (sellLeg t)),
       )
-      (sym (mul-add (t .price) _ _))
-      ∙ ap (λ (n : ℕ). t .price * n) (sym (legs-measure (lotsIf sell close)))
+      (sym (mul-add (t .price) _ _)) ∙ ap (λ (n : ℕ). t .price * n) (sym (legs-measure (lotsIf sell close)))
 
 pub value-small : (t : Trade) → Sized t → (n : ℕ) → n ≤ t .lots → t .price * n ≤ maxPrice * maxLots
 value-small t s n h =

@@ -1,12 +1,7 @@
 -- The passes over the day's trades: one adds up the legs that close or open, one takes the first of the lots opened; and how far their
 -- sums reach. Assumes nothing.
-use mathlib.Core.Bool.{Bool, true, false, _&&_}
-use mathlib.Core.List.{List, [], _∷_, _++_, append-nil}
-use mathlib.Core.Path.{_≡_, ap, _∙_}
-use Prim.Native.Nat.{ℕ, _+_, _-_, _*_, _<_, _≤_, min}
-use native.Mathlib.Omega.{arith}
-use lib.Dec.{eqb}
-use lib.ListN.{length, getD, drop, replicate, getD-replicate, length-replicate}
+use Rattle.laws.specs.Logic.{Bool, true, false, _&&_, List, [], _∷_, _++_, append-nil, _≡_, ap, _∙_}
+use Rattle.laws.specs.Numbers.{ℕ, _+_, _-_, _*_, _<_, _≤_, min, arith, eqb, length, getD, drop, replicate, length-replicate, getD-replicate}
 use Rattle.laws.specs.Choice.{pick}
 use Rattle.laws.specs.Sums.{sumOf, sumOf-append}
 use Rattle.rules.specs.Article32.{lotsIn}
@@ -83,8 +78,7 @@ module _ (due : ℕ) (bs : List Batch) (u v p n : ℕ) (e : u ≡ due - lotsIn b
   batch-left = rw (lots-append bs (record { price = p; lots = n } ∷ []), one-lots p n) (omega arith)
 
   batch-taken : v + p * min u n ≡ cost (firstLots due (bs ++ (record { price = p; lots = n } ∷ [])))
-  batch-taken =
-      rw (first-append due bs (record { price = p; lots = n } ∷ []), cost-append (firstLots due bs), ← e, one-taken p n u, f)
+  batch-taken = rw (first-append due bs (record { price = p; lots = n } ∷ []), cost-append (firstLots due bs), ← e, one-taken p n u, f)
 
 pub taking : (left : List ℕ) → Pass false (Taken left) (λ u v p n. u - min u n) (λ u v p n. v + p * min u n)
 taking left =
@@ -197,10 +191,7 @@ adding-none close area count us vs e f =
 pub adding-done : (close : Bool) (area : List ℕ) (count : ℕ) (us vs : List ℕ) (i : ℕ) → count ≤ i → Passing (Added close) area count us vs i → SumsAre close (recordedTrades area count) us vs
 adding-done close area count us vs i h w =
     let e : i ≡ count = omega (arith, w .within) in
-    record {
-      lots-are = λ a c s la lc. rw (← e) (w .kept .tells a c s la lc .0);
-      value-is = λ a c s la lc. rw (← e) (w .kept .tells a c s la lc .1);
-    }
+    record { lots-are = λ a c s la lc. rw (← e) (w .kept .tells a c s la lc .0); value-is = λ a c s la lc. rw (← e) (w .kept .tells a c s la lc .1) }
 
 pub taking-none : (area : List ℕ) (count : ℕ) (left vs : List ℕ) → length left ≡ slots → vs ≡ replicate slots 0 → Passing (Taken left) area count left vs 0
 unfolding batchesOf firstLots cost sumOf

@@ -1,22 +1,16 @@
 -- The price from quotes, and the whole settlement price, by the tests of the code. Assumes nothing.
-use mathlib.Core.List.{List, [], _∷_}
-use mathlib.Core.Path.{_≡_, refl, sym, ap₂, _∙_}
-use Prim.Native.Nat.{ℕ, zero, suc, _+_, _*_, _/_, _≤_}
-use native.Mathlib.Nat.{add-zero, div-mul-le-self, div-le-of-le-mul}
-use native.Mathlib.Omega.{arith}
-use lib.ListN.{drop}
 use mir.Facts.{fits-below}
 use mir.Syntax.{w32, w64}
 use mir.Val.{Fits}
+use Rattle.laws.specs.Logic.{List, [], _∷_, _≡_, refl, sym, ap₂, _∙_}
+use Rattle.laws.specs.Numbers.{ℕ, zero, suc, _+_, _*_, _/_, _≤_, add-zero, div-mul-le-self, div-le-of-le-mul, arith, drop}
 use Rattle.areas.specs.Records.{records, decode}
 use Rattle.laws.specs.Sums.{sumOf}
 use Rattle.rules.specs.Exchange.{Listing}
 use Rattle.rules.specs.Matching.{middle, tradedLots}
 use Rattle.rules.specs.Memory.{queueIn, recordedTrades, orderFrom, queueStride}
 use Rattle.rules.specs.Settlement.{weightedPrice, quotedPrice, priceFrom, tradesIn, settlementPrice}
-use Rattle.rules.specs.declared.Contract.{Contract}
-use Rattle.rules.specs.declared.Order.{Order}
-use Rattle.rules.specs.declared.Trade.{Trade}
+use Rattle.rules.specs.declared.{Contract.Contract, Order.Order, Trade.Trade}
 use Rattle.dayprofit.specs.Day.{AllSized, TurnoverIs, PriceIs}
 use Rattle.dayprofit.specs.declared.price.Turnover.{Turnover}
 use Rattle.dayprofit.proofs.Trading.{some-lots, value-small}

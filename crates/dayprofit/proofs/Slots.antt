@@ -1,14 +1,8 @@
 -- Sums in slots, as the passes over the day's trades keep them: a leg changes its own slot alone, so what is known of every slot by the
 -- legs so far is known with one trade more. Assumes nothing.
-use mathlib.Core.Bool.{Bool, true, false, _&&_}
-use mathlib.Core.List.{List, [], _∷_, _++_, append-nil, append-assoc}
-use mathlib.Core.Path.{_≡_, refl, sym, ap, _∙_, subst}
-use Prim.Native.Nat.{ℕ, _+_, _-_, _*_, _<_, _≤_, min}
-use native.Mathlib.Omega.{arith}
-use borrow.Author.Tests.{eqb-true, eqb-false}
-use lib.Dec.{eqb, leb}
-use lib.ListN.{length, getD, set, drop, length-set}
-use lib.Seq.{getD-set-same, getD-set-other}
+use Rattle.laws.specs.Logic.{Bool, true, false, _&&_, List, [], _∷_, _++_, append-nil, append-assoc, _≡_, refl, sym, ap, subst, _∙_}
+use Rattle.laws.specs.Numbers.{ℕ, _+_, _-_, _*_, _<_, _≤_, min, arith, eqb-true, eqb-false, eqb, leb, length, getD, set, drop, length-set, getD-set-same}
+use Rattle.laws.specs.Numbers.{getD-set-other}
 use Rattle.laws.specs.Choice.{pick, both-false}
 use Rattle.laws.specs.Sums.{sumOf}
 use Rattle.rules.specs.Bounds.{maxAccounts, maxContracts}
@@ -199,10 +193,8 @@ trade-legs a c t = ap (λ (ls : List Leg). legOf false t a c ++ ls) (append-nil 
 more-legs : (area : List ℕ) (i : ℕ) (t : Trade) → t ≡ tradeFrom (drop (tradeStride * i) area) → (a c : ℕ)
     → (legsTo area i a c ++ legOf false t a c) ++ legOf true t a c ≡ legsTo area (i + 1) a c
 more-legs area i t e a c =
-    append-assoc (legsTo area i a c) (legOf false t a c) (legOf true t a c)
-    ∙ ap (λ (ls : List Leg). legsTo area i a c ++ ls) (sym (trade-legs a c t))
-    ∙ sym (legs-append a c (recordedTrades area i) (t ∷ []))
-    ∙ ap (legs a c) (sym (more-trades area i t e))
+    append-assoc (legsTo area i a c) (legOf false t a c) (legOf true t a c) ∙ ap (λ (ls : List Leg). legsTo area i a c ++ ls) (sym (trade-legs a c t))
+    ∙ sym (legs-append a c (recordedTrades area i) (t ∷ [])) ∙ ap (legs a c) (sym (more-trades area i t e))
 
 pub trade-more : {Told : ℕ → Bool → List Leg → ℕ → ℕ → Type 0} (area : List ℕ) (i : ℕ) (t : Trade) (us vs : List ℕ)
     → t ≡ tradeFrom (drop (tradeStride * i) area) → Kept Told (λ a c. (legsTo area i a c ++ legOf false t a c) ++ legOf true t a c) us vs

@@ -1,17 +1,10 @@
 -- The day's trades one after the other, as loops over them add up their value and lots, with the bounds of those sums.
 -- Assumes nothing.
-use mathlib.Core.Bool.{Bool, true, false}
-use mathlib.Core.List.{List, [], _∷_, _++_}
-use mathlib.Core.Path.{_≡_, refl, sym, ap, _∙_}
-use Prim.Native.Nat.{ℕ, suc, _+_, _*_, _-_, _<_, _≤_}
-use native.Mathlib.Nat.{mul-le-mul-left, mul-le-mul-right, le-trans}
-use native.Mathlib.Omega.{arith}
-use borrow.Author.Tests.{eq-eqb, ne-eqb}
-use lib.Dec.{eqb}
-use lib.ListN.{length, drop}
 use mir.Facts.{fits-below}
 use mir.Syntax.{w64}
 use mir.Val.{Fits}
+use Rattle.laws.specs.Logic.{Bool, true, false, List, [], _∷_, _++_, _≡_, refl, sym, ap, _∙_}
+use Rattle.laws.specs.Numbers.{ℕ, suc, _+_, _-_, _*_, _<_, _≤_, le-trans, mul-le-mul-left, mul-le-mul-right, arith, eq-eqb, ne-eqb, eqb, length, drop}
 use Rattle.laws.specs.Choice.{pick}
 use Rattle.laws.specs.Sums.{sumOf, sumOf-append}
 use Rattle.areas.specs.Records.{records, decode}
@@ -53,8 +46,7 @@ module _ (area : List ℕ) (count : ℕ) (s : SizedTrades area count) where
 
   pub sized-at : (i : ℕ) (t : Trade) → i < count → t ≡ tradeFrom (drop (tradeStride * i) area) → Sized t
   unfolding AllSized
-  sized-at i t h e =
-      sized-append (recordedTrades area i) (t ∷ []) (rw (more-trades area i t e) at (sized-first (i + 1) (omega arith))) .1 .0
+  sized-at i t h e = sized-append (recordedTrades area i) (t ∷ []) (rw (more-trades area i t e) at (sized-first (i + 1) (omega arith))) .1 .0
 
 -- ---- value and lots
 
@@ -113,8 +105,7 @@ module _ (c : ℕ) (t : Trade) where
   part-all here = record { value = rw (eq-eqb (t .contract) c here) (omega arith); lots = rw (eq-eqb (t .contract) c here) (omega arith) }
 
   pub part-fits : Sized t → Fits w64 (t .price * t .lots)
-  part-fits s =
-      fits-below {n = 1_000_000_000} tt (le-trans (mul-le-mul-right (t .lots) (s .price)) (mul-le-mul-left 1_000_000 (s .lots)))
+  part-fits s = fits-below {n = 1_000_000_000} tt (le-trans (mul-le-mul-right (t .lots) (s .price)) (mul-le-mul-left 1_000_000 (s .lots)))
 
 -- ---- the loop over the day's trades: value and lots of the first i, as far as they are the contract's
 
@@ -142,11 +133,7 @@ module _ (area : List ℕ) (count c : ℕ) (s : SizedTrades area count) where
   trading-more value lots i t p h w e q =
       let f : tradesIn c (recordedTrades area (i + 1)) ≡ tradesIn c (recordedTrades area i) ++ tradesIn c (t ∷ []) =
       ap (tradesIn c) (more-trades area i t e) ∙ trades-in-append c (recordedTrades area i) (t ∷ []) in
-      record {
-        within = omega arith;
-        value = rw (f, sumOf-append, w .value, q .value);
-        lots = rw (f, sumOf-append, w .lots, q .lots);
-      }
+      record { within = omega arith; value = rw (f, sumOf-append, w .value, q .value); lots = rw (f, sumOf-append, w .lots, q .lots) }
 
   module _ (value lots i : ℕ) (t : Trade) (p : Turnover) (h : i < count) (w : Trading area count c value lots i) (e : t ≡ tradeFrom (drop (tradeStride * i) area))
       (q : TurnoverIs (tradesIn c (t ∷ [])) p) where

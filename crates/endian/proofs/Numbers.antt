@@ -1,12 +1,7 @@
 -- Little-endian numbers written and read, over their width. Assumes nothing.
-use mathlib.Core.List.{List, [], _∷_, _++_}
-use mathlib.Core.Path.{_≡_, sym, ap, _∙_}
-use Prim.Native.Nat.{ℕ, suc, _+_, _*_, _/_, _%_, _≤_, _<_}
-use native.Mathlib.Nat.{add-zero, add-assoc}
-use native.Mathlib.Numerals.{add-one}
-use native.Mathlib.Omega.{arith}
-use lib.ListN.{length, getD, take, drop}
-use lib.Seq.{drop-cons, drop-at, drop-drop, take-add, getD-drop}
+use Rattle.laws.specs.Logic.{List, [], _∷_, _++_, _≡_, sym, ap, _∙_}
+use Rattle.laws.specs.Numbers.{ℕ, suc, _+_, _*_, _/_, _%_, _<_, _≤_, add-zero, add-assoc, add-one, arith, length, getD, take, drop, take-add, drop-at}
+use Rattle.laws.specs.Numbers.{drop-cons, drop-drop, getD-drop}
 use Rattle.rules.specs.DayFile.{u8At, u16At, u32At, u64At}
 use Rattle.endian.specs.Numbers.{two, four, eight, eightMost}
 
@@ -61,14 +56,12 @@ four-back n ys = rw (value-2 (n % 65_536), value-2 (n / 65_536)) (value-4 n)
 
 pub eight-back : (n : ℕ) (ys : List ℕ) → u64At (eight n ++ ys) 0 ≡ n
 unfolding eight four two u64At u32At u16At u8At
-eight-back n ys =
-    rw (four-back (n % 4_294_967_296) [], four-back (n / 4_294_967_296) []) (value-8 n)
+eight-back n ys = rw (four-back (n % 4_294_967_296) [], four-back (n / 4_294_967_296) []) (value-8 n)
 
 -- a number behind what begins a file
 pub four-behind : (p : List ℕ) (n : ℕ) (ys : List ℕ) (at : ℕ) → length p ≡ at → u32At (p ++ (four n ++ ys)) at ≡ n
 four-behind p n ys at e =
-    ap (u32At (p ++ (four n ++ ys))) (sym (add-zero at))
-    ∙ sym (u32-drop (p ++ (four n ++ ys)) at 0)
+    ap (u32At (p ++ (four n ++ ys))) (sym (add-zero at)) ∙ sym (u32-drop (p ++ (four n ++ ys)) at 0)
     ∙ rw (drop-at p (four n ++ ys) at e) (four-back n ys)
 
 -- ---- what is read is written

@@ -1,17 +1,12 @@
 -- Signed numbers: how far an i64 is from 0, what its eight bytes hold, and the number made of them again. Assumes nothing.
-use mathlib.Core.Bool.{Bool, true, false, true≢false}
-use mathlib.Core.Path.{_≡_, refl, sym, ap, subst, _∙_}
-use Prim.Native.Nat.{ℕ, zero, suc, _+_, _-_, _<_, _≤_, _^_}
-use native.Mathlib.Nat.{not-suc-le-zero}
-use native.Mathlib.Numerals.{add-one}
-use native.Mathlib.Omega.{arith}
-use lib.Dec.{T, ltb}
+use lib.Dec.{T}
 use lib.IntN.{ℤ, pos, negsuc, sucℤ, negℤ, natAbs, _+ℤ_, _-ℤ_, +ℤ-one, +ℤ-idl}
 use lib.Signed.{ltZ, mag, nonNeg}
 use mir.Syntax.{w64}
 use mir.Val.{SFits, toZ, ofZ}
 use mir.Facts.{toZ-ofZ}
-use borrow.Author.Tests.{ltb-true, ltb-false, lt-ltb, le-ltb}
+use Rattle.laws.specs.Logic.{Bool, true, false, true≢false, _≡_, refl, sym, ap, subst, _∙_}
+use Rattle.laws.specs.Numbers.{ℕ, zero, suc, _+_, _-_, _^_, _<_, _≤_, not-suc-le-zero, add-one, arith, ltb-true, ltb-false, lt-ltb, le-ltb, ltb}
 use Rattle.laws.specs.Bound.{within-pos}
 use Rattle.laws.specs.Choice.{pick}
 use Rattle.laws.specs.Ring.{d-eq, ring}
@@ -114,9 +109,7 @@ module _ (n : ℕ) (h : signEnd ≤ n) where
 
   pub below-is : toZ w64 (ofZ w64 (toZ w64 (ofZ w64 (pos 0 -ℤ toZ w64 size)) -ℤ pos 1)) ≡ signedOf n
   below-is =
-      ap (λ (z : ℤ). toZ w64 (ofZ w64 (z -ℤ pos 1))) read-opposite
-      ∙ ap (λ (z : ℤ). toZ w64 (ofZ w64 z)) (less-one size)
-      ∙ toZ-ofZ {w = w64} below
+      ap (λ (z : ℤ). toZ w64 (ofZ w64 (z -ℤ pos 1))) read-opposite ∙ ap (λ (z : ℤ). toZ w64 (ofZ w64 z)) (less-one size) ∙ toZ-ofZ {w = w64} below
       ∙ sym (signed-high n h)
 
 -- ---- what is written is read, and what is read is written

@@ -1,12 +1,7 @@
 -- Writing one thing after the other: numbers, and parts of a file. Assumes nothing.
-use mathlib.Core.List.{List, [], _∷_, _++_}
-use mathlib.Core.Path.{_≡_, refl, sym, ap, _∙_}
-use Prim.Native.Nat.{ℕ, _+_, _/_, _%_, _≤_, _<_}
-use native.Mathlib.Nat.{le-refl}
-use native.Mathlib.Numerals.{add-one}
-use native.Mathlib.Omega.{arith}
-use lib.ListN.{length, getD, set, take, drop, length-append, length-drop}
-use lib.Seq.{take-suc, getD-drop, length-take-le}
+use Rattle.laws.specs.Logic.{List, [], _∷_, _++_, _≡_, refl, sym, ap, _∙_}
+use Rattle.laws.specs.Numbers.{ℕ, _+_, _/_, _%_, _<_, _≤_, le-refl, add-one, arith, length, getD, set, take, drop, length-append, length-drop, length-take-le}
+use Rattle.laws.specs.Numbers.{take-suc, getD-drop}
 use Rattle.areas.specs.Lists.{over}
 use Rattle.areas.proofs.Lists.{length-over, over-nil, over-append, set-over}
 use Rattle.endian.specs.Numbers.{two, four, eight}
@@ -21,8 +16,7 @@ written {before} {bytes} most at next e n s room =
     record { content = e; ends = n; short = s; kept = ap length e ∙ length-over before at bytes room; inside = omega arith }
 
 -- one byte, and none
-pub one-byte : (before : List ℕ) (at byte : ℕ) → at + 1 ≤ length before
-    → Written 1 before at (byte ∷ []) (set before at byte) (at + 1)
+pub one-byte : (before : List ℕ) (at byte : ℕ) → at + 1 ≤ length before → Written 1 before at (byte ∷ []) (set before at byte) (at + 1)
 one-byte before at byte room = written 1 at (at + 1) (set-over before at byte (omega arith)) refl (le-refl 1) room
 
 pub no-byte : (before : List ℕ) (at : ℕ) → at ≤ length before → Written 0 before at [] before at
@@ -55,8 +49,7 @@ module _ {before after bytes : List ℕ} {most at next : ℕ} (w : Written most 
 -- ---- numbers
 
 module _ {before middle after : List ℕ} {at j next : ℕ} (n : ℕ) where
-  pub two-bytes : Written 1 before at (n % 256 ∷ []) middle j → Written 1 middle j (n / 256 ∷ []) after next
-      → Written 2 before at (two n) after next
+  pub two-bytes : Written 1 before at (n % 256 ∷ []) middle j → Written 1 middle j (n / 256 ∷ []) after next → Written 2 before at (two n) after next
   unfolding two
   two-bytes w v = then w v
 
@@ -84,11 +77,9 @@ module _ (file : List ℕ) (from : ℕ) where
   pub length-part : (n : ℕ) → from + n ≤ length file → length (take n (drop from file)) ≡ n
   length-part n h = length-take-le n (drop from file) (omega (arith, length-drop from file))
 
-  part-more : (i : ℕ) → from + i < length file
-      → take (i + 1) (drop from file) ≡ take i (drop from file) ++ (getD file (from + i) 0 ∷ [])
+  part-more : (i : ℕ) → from + i < length file → take (i + 1) (drop from file) ≡ take i (drop from file) ++ (getD file (from + i) 0 ∷ [])
   part-more i h =
-      ap (λ (k : ℕ). take k (drop from file)) (add-one i)
-      ∙ take-suc (drop from file) i 0 (omega (arith, length-drop from file))
+      ap (λ (k : ℕ). take k (drop from file)) (add-one i) ∙ take-suc (drop from file) i 0 (omega (arith, length-drop from file))
       ∙ ap (λ (y : ℕ). take i (drop from file) ++ (y ∷ [])) (getD-drop from file i 0)
 
   pub part-turn : {before middle after : List ℕ} {at j next : ℕ} (i : ℕ) → from + i < length file

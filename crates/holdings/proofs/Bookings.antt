@@ -1,18 +1,11 @@
 -- Holdings while trades are booked: a bound on those of the accounts in use grows by the lots of each leg, and the two places that code changes
 -- are the two legs of the trade. Assumes nothing.
-use mathlib.Core.Bool.{Bool, true, false}
-use mathlib.Core.List.{List, [], _∷_}
-use mathlib.Core.Path.{_≡_, ap, _∙_}
-use Prim.Native.Nat.{ℕ, zero, suc, _+_, _-_, _<_, _≤_}
-use native.Mathlib.Omega.{arith}
-use lib.Dec.{eqb}
-use lib.ListN.{getD, set}
+use Rattle.laws.specs.Logic.{Bool, true, false, List, [], _∷_, _≡_, ap, _∙_}
+use Rattle.laws.specs.Numbers.{ℕ, zero, suc, _+_, _-_, _<_, _≤_, arith, eqb, getD, set}
 use Rattle.laws.specs.Choice.{pick}
 use Rattle.rules.specs.Exchange.{noAccount, noHolding, accountAt, holdingAt}
 use Rattle.rules.specs.Holdings.{withLong, withShort, withHolding, afterLeg, bookLeg, bookBuyer, bookTrade}
-use Rattle.rules.specs.declared.Account.{Account}
-use Rattle.rules.specs.declared.Holding.{Holding}
-use Rattle.rules.specs.declared.Trade.{Trade}
+use Rattle.rules.specs.declared.{Account.Account, Holding.Holding, Trade.Trade}
 use Rattle.holdings.specs.Bounds.{HoldingWithin, HeldWithin}
 
 -- ---- bounds
@@ -46,8 +39,7 @@ holding-leg : {b : ℕ} (h : Holding) (sell : Bool) (close lots : ℕ) → Holdi
 unfolding afterLeg
 holding-leg {b} h sell close lots w = by-leg sell (eqb close 0)
   where
-    by-leg : (s o : Bool)
-        → HoldingWithin (b + lots)
+    by-leg : (s o : Bool) → HoldingWithin (b + lots)
         (pick s
         (pick o (withShort h (h .short + lots)) (withLong h (h .long - lots)))
         (pick o (withLong h (h .long + lots)) (withShort h (h .short - lots))))

@@ -1,12 +1,7 @@
 -- WHAT AN ACCOUNT MAY RELY ON: the theorems of specs/Accounts, of one command by the rules, and of the memory that a call or a run of
 -- commands leaves. Assumes nothing.
-use mathlib.Core.Bool.{Bool, true, false, not, false≢true}
-use mathlib.Core.List.{List, [], _∷_}
-use mathlib.Core.Path.{_≡_, refl, sym, ap, subst, subst⁻¹, _∙_}
-use Prim.Native.Nat.{ℕ, _+_, _<_}
-use native.Mathlib.Omega.{arith}
-use borrow.Author.Tests.{eqb-true, not-true}
-use lib.Dec.{eqb}
+use Rattle.laws.specs.Logic.{Bool, true, false, not, false≢true, List, [], _∷_, _≡_, refl, sym, ap, subst, subst⁻¹, _∙_}
+use Rattle.laws.specs.Numbers.{ℕ, _+_, _<_, arith, eqb-true, not-true, eqb}
 use Rattle.laws.specs.Choice.{pick, allOf, both-true}
 use Rattle.rules.specs.Command.{Field, unused, holds, accountField, isSettle}
 use Rattle.rules.specs.Condition3.{accountsOf, contractsOf, run}
@@ -16,7 +11,6 @@ use Rattle.rules.specs.Kinds.{codeOf, decide, done, kindOf, lastOf, refused, st
 use Rattle.rules.specs.Memory.{Memory, Declared, exchangeOf, respond, stepIn, wellFormedMemory}
 use Rattle.rules.specs.Touches.{names}
 use Rattle.rules.specs.declared.Command.{Command}
-use Rattle.rules.specs.declared.Command.the-variants.{Withdraw}
 use Rattle.rules.proofs.Stages.{decided}
 use Rattle.accounting.specs.Shape.{Shaped}
 use Rattle.accounting.proofs.Condition3.{opening-loaded}
@@ -61,15 +55,11 @@ resting-allowed m w cs = resting-now (run m cs) (run-keeps m cs w)
 -- ---- 15. ALL CHARGED MARGIN IS WITHIN THE BALANCE
 
 module _ (x : Exchange) (k : Sound x) (shaped : Shaped x) where
-  kind-withdrawn : (command : Command) (account amount : ℕ) → command ≡ Withdraw account amount → codeOf x command ≡ 0 → WithinBalance (leftBy x command) (placeOf account)
-  unfolding codeOf kindOf
-  kind-withdrawn command account amount q e = rw q (withdrawal-within x account amount (rw q at e))
-
   pub margin-within-balance : (command : Command) → MarginWithinBalance x command (step x command)
-  unfolding step
+  unfolding step codeOf kindOf
   margin-within-balance command = record {
     opened = λ o e a n. accepted e a (named (accountField command) (kind-opened x k shaped command e o) a n);
-    withdrawn = λ account amount q e. accepted e (placeOf account) (kind-withdrawn command account amount q e);
+    withdrawn = λ account amount q e. accepted e (placeOf account) (rw q (withdrawal-within x account amount (rw q at e)));
     stays = λ n a l w. decided (λ d. WithinBalance (lastOf x (d .stages)) a) x command (λ e. kind-within x k shaped command e n a l w) (λ e. w);
   }
     where

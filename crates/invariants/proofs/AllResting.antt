@@ -1,10 +1,7 @@
 -- What holds of every resting order of a state, by contract and side, holds after a command if it holds of the orders that come to rest, and
 -- does not go by lots. Assumes nothing.
-use mathlib.Core.Bool.{Bool, true, false, not}
-use mathlib.Core.List.{List, [], _∷_}
-use mathlib.Core.Path.{_≡_, refl}
-use Prim.Native.Nat.{ℕ, zero, suc}
-use lib.ListN.{getD, set}
+use Rattle.laws.specs.Logic.{Bool, true, false, not, List, [], _∷_, _≡_, refl}
+use Rattle.laws.specs.Numbers.{ℕ, zero, suc, getD, set}
 use Rattle.laws.specs.Choice.{pick, allOf}
 use Rattle.rules.specs.Answers.{listingOf, takerOf}
 use Rattle.rules.specs.Auction.{Matched, matchAt, matchOf}
@@ -13,8 +10,7 @@ use Rattle.rules.specs.Exchange.{Exchange, Listing, listingAt, listingNamed, no
 use Rattle.rules.specs.Kinds.{lastOf}
 use Rattle.rules.specs.Matching.{enter, remainder, restLots, restWhole, withLots}
 use Rattle.rules.specs.Step.{enteredOf, exchangeAfter, exchangeMatched, limitOf, listingAfter, listingMatched, listingWithout, withListing}
-use Rattle.rules.specs.declared.NewOrder.{NewOrder}
-use Rattle.rules.specs.declared.Order.{Order}
+use Rattle.rules.specs.declared.{NewOrder.NewOrder, Order.Order}
 use Rattle.rules.proofs.AuctionOutcome.{auction-either}
 use Rattle.rules.proofs.AuctionSteps.{entered-either, match-either}
 use Rattle.rules.proofs.AuctionTaken.{KeptWithFewer, less-kept}

@@ -1,13 +1,7 @@
 -- Law 13 (rules, specs/AuctionFairness): THE AUCTION TRADES THE MOST THAT CAN TRADE AT ONE PRICE. Trades that respect limits and lots trade at most the
 -- volume of their price, and of that the auction has the largest; and both queues are taken from their fronts. Assumes nothing.
-use mathlib.Core.Bool.{Bool, true, false, _&&_}
-use mathlib.Core.List.{List, [], _∷_}
-use mathlib.Core.Path.{_≡_, refl}
-use Prim.Native.Nat.{ℕ, _+_, _-_, _<_, _≤_}
-use native.Mathlib.Omega.{arith}
-use borrow.Author.Tests.{ltb-true, ltb-false}
-use lib.Dec.{ltb, eqb}
-use lib.ListN.{length}
+use Rattle.laws.specs.Logic.{Bool, true, false, _&&_, List, [], _∷_, _≡_, refl}
+use Rattle.laws.specs.Numbers.{ℕ, _+_, _-_, _<_, _≤_, arith, ltb-true, ltb-false, eqb, ltb, length}
 use Rattle.laws.specs.Choice.{allOf, pick}
 use Rattle.laws.specs.Sums.{sumOf, sumOf-ext}
 use Rattle.rules.specs.Auction.{Matched, afterMatch, auctionMatch, chosenPrice, lessFirst, lotsReaching, matchAt, paired, reaches, tradeAt, unmatched, volume}
@@ -16,8 +10,7 @@ use Rattle.rules.specs.AuctionFairness.{RespectsLimits, BestAuction, leftOn, lo
 use Rattle.rules.specs.Fairness.{LotsAccounted, allLots, lotsNumbered, lotsTraded, orderAt, orderOn}
 use Rattle.rules.specs.Matching.{tradedLots, withLots}
 use Rattle.rules.specs.WellFormed.{numbers, sorted, usedOnce}
-use Rattle.rules.specs.declared.Order.{Order}
-use Rattle.rules.specs.declared.Trade.{Trade}
+use Rattle.rules.specs.declared.{Order.Order, Trade.Trade}
 use Rattle.rules.proofs.AuctionOutcome.{auction-either, auction-lots}
 use Rattle.rules.proofs.AuctionTrades.{match-prices}
 use Rattle.rules.proofs.AuctionTurns.{less-filled, less-part, match-ind}

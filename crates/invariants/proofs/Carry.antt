@@ -1,17 +1,12 @@
 -- A clause carried from one state to the next where what it depends on has not changed. Assumes nothing.
-use mathlib.Core.Bool.{true}
-use mathlib.Core.List.{List}
-use mathlib.Core.Path.{_≡_}
-use Prim.Native.Nat.{ℕ, _≤_}
-use native.Mathlib.Omega.{arith}
-use lib.ListN.{length}
+use borrow.Author.Needs.{needs}
+use Rattle.laws.specs.Logic.{true, List, _≡_}
+use Rattle.laws.specs.Numbers.{ℕ, _≤_, length}
 use Rattle.laws.specs.Choice.{allOf, allOf-imp}
 use Rattle.rules.specs.Bounds.{allowedToday}
 use Rattle.rules.specs.Exchange.{Exchange, listingAt}
 use Rattle.rules.specs.WellFormed.{orderInRange, tradeInRange}
-use Rattle.rules.specs.declared.Contract.{Contract}
-use Rattle.rules.specs.declared.Order.{Order}
-use Rattle.rules.specs.declared.Trade.{Trade}
+use Rattle.rules.specs.declared.{Contract.Contract, Order.Order, Trade.Trade}
 use Rattle.invariants.proofs.Clauses.{order-ok, order-test, trade-ok, trade-test}
 
 -- the same prices are allowed
@@ -26,18 +21,7 @@ orders-carried accounts next next′ stamp stamp′ c d later stamped allows que
     (λ o h.
     let k = order-ok accounts next stamp c o h in
     order-test accounts next′ stamp′ d o
-    (record {
-      lots-low = k .lots-low;
-      lots-high = k .lots-high;
-      account = k .account;
-      price = allows (o .price) (k .price);
-      number-low = k .number-low;
-      number-high = omega arith;
-      close = k .close;
-      stamp-low = k .stamp-low;
-      stamp-high = omega arith;
-      quote = k .quote;
-    }))
+    (search needs depth 12))
 
 -- recorded trades
 module _ (x y : Exchange) (listings : length (x .listings) ≡ length (y .listings)) (accounts : length (x .accounts) ≡ length (y .accounts))
@@ -48,18 +32,4 @@ module _ (x y : Exchange) (listings : length (x .listings) ≡ length (y .listin
       (λ t h.
       let k = trade-ok x t h in
       trade-test y t
-      (record {
-        contract = omega arith;
-        buyer = omega arith;
-        seller = omega arith;
-        two = k .two;
-        buy-low = k .buy-low;
-        buy-high = omega arith;
-        sell-low = k .sell-low;
-        sell-high = omega arith;
-        price = allows (t .contract) (t .price) (k .price);
-        lots-low = k .lots-low;
-        lots-high = k .lots-high;
-        buyclose = k .buyclose;
-        sellclose = k .sellclose;
-      }))
+      (search needs depth 12))

@@ -1,28 +1,21 @@
 -- An accepted change of a resting order keeps a state well formed. Where the place is lost the order is gone, and its number is then no
 -- resting order's, so that it is entered as an insert's is; 13 cannot occur, since its own side has one order fewer. Where the place is
 -- kept that order has fewer lots. Assumes nothing.
-use mathlib.Core.Bool.{Bool, true, false, not, _&&_, _||_, true≢false, false≢true}
-use mathlib.Core.List.{List, [], _∷_, _++_}
-use mathlib.Core.Path.{_≡_, refl, sym, ap, subst, _∙_}
-use Prim.Native.Nat.{ℕ, _+_, _<_, _≤_}
-use native.Mathlib.Nat.{le-refl}
-use native.Mathlib.Omega.{arith}
-use borrow.Author.Tests.{eqb-true, eqb-false, eq-eqb, ne-eqb, leb-false, ltb-false, le-leb, not-false, not-true}
-use lib.Dec.{leb, ltb, eqb}
-use lib.ListN.{length, getD, set, length-set}
-use lib.Seq.{getD-set-same}
+use borrow.Author.Needs.{needs}
+use Rattle.laws.specs.Logic.{Bool, true, false, not, _&&_, _||_, true≢false, false≢true, List, [], _∷_, _++_, _≡_, refl, sym, ap, subst, _∙_}
+use Rattle.laws.specs.Numbers.{ℕ, _+_, _<_, _≤_, le-refl, arith, eqb-true, eqb-false, leb-false, ltb-false, eq-eqb, ne-eqb, le-leb, not-true, not-false, eqb}
+use Rattle.laws.specs.Numbers.{leb, ltb, length, getD, set, length-set, getD-set-same}
 use Rattle.laws.specs.Choice.{pick, allOf, allOf-append, both-true, true-both, either-false}
 use Rattle.laws.specs.Sums.{sumOf, sumOf-append, sumOf-at, sumOf-set}
 use Rattle.rules.specs.Answers.{firstOf, listingOf, namedRefusals, noSuchOrder, notContinuous, numbered, ofAnother, ownerRefusals, Refusal, restingOrder, tradesRefused}
-use Rattle.rules.specs.Bounds.{allowedToday, maxLots, maxResting, numbersEnd}
+use Rattle.rules.specs.Bounds.{allowedToday, maxLots, maxResting}
 use Rattle.rules.specs.Change.{Asked, arriving, changeRefusals, changed, gone, isSell, lessened, listingLessened, losesPlace, newFieldsRefusals, oldOrder, placeKept, placeLost, reentered, reentryRefusals, unchanged, unmarked}
 use Rattle.rules.specs.Exchange.{Exchange, Listing, listingAt, listingNamed, noListing, noOrder, own, placeOf, lotsWhere, resting}
 use Rattle.rules.specs.Kinds.{lastOf}
 use Rattle.rules.specs.Matching.{withLots}
 use Rattle.rules.specs.Step.{cancelled, exchangeAfter, hasNumber, limitOf, listingWithout, removed, withListing, without}
 use Rattle.rules.specs.WellFormed.{allNumbers, numberOf, markAllowed, orderInRange}
-use Rattle.rules.specs.declared.Holding.{Holding}
-use Rattle.rules.specs.declared.Order.{Order}
+use Rattle.rules.specs.declared.{Holding.Holding, Order.Order}
 use Rattle.rules.proofs.Changes.{changed-either}
 use Rattle.rules.proofs.Lessened.{fits, less-all, less-length, less-sorted, less-sum, less-uncrossed, same-sum}
 use Rattle.rules.proofs.Stages.{Each}
@@ -227,14 +220,6 @@ module _ (x : Exchange) (w : WellFormed x) (k : Asked) (e : firstOf (changeRefus
   unfolding gone removed
   gone-keeps = removed-keeps (hasNumber number) x place there number w
 
-  gone-counted : Counted x → Counted (gone x k)
-  unfolding gone removed
-  gone-counted = removed-counted (hasNumber number) x place there number
-
-  gone-listing : listingOf (gone x k) (arriving x k) ≡ left
-  unfolding gone arriving listingOf listingAt
-  gone-listing = getD-set-same (x .listings) place left noListing there
-
   left-unused : usesIn numberOf number left ≡ 0
   unfolding usesIn
   left-unused = omega (arith, without-unused number (listing .buys), without-unused number (listing .sells))
@@ -267,22 +252,20 @@ module _ (x : Exchange) (w : WellFormed x) (k : Asked) (e : firstOf (changeRefus
     pub reentry-passed : Failed (reentryRefusals (gone x k) number (arriving x k))
     reentry-passed = failed (reentryRefusals (gone x k) number (arriving x k)) (omega arith) (rw lost at (passed .1))
 
-    stamps-left : x .nextstamp < numbersEnd
-    unfolding gone
-    stamps-left = leb-false _ _ (reentry-passed .1 .1 .0)
-
     mine-left : (b : Bool) → own b left ≡ without (hasNumber number) (own b listing)
     mine-left true = refl
     mine-left false = refl
 
     -- 13 CANNOT OCCUR: its own side has one order fewer
     pub has-room : Counted x → length (own (isSell x k) (listingOf (gone x k) (arriving x k))) < maxResting
+    unfolding gone arriving listingOf listingAt
     has-room n =
-        rw (gone-listing, mine-left (isSell x k))
+        rw (getD-set-same (x .listings) place left noListing there, mine-left (isSell x k))
         (omega (arith, without-shorter number (own (isSell x k) listing), mine-used, n .queues place (isSell x k) there))
 
     its-price : allowedToday (listingOf (gone x k) (arriving x k) .contract) (k .price) ≡ true
-    its-price = rw gone-listing (price-allowed some)
+    unfolding gone arriving listingOf listingAt
+    its-price = rw (getD-set-same (x .listings) place left noListing there) (price-allowed some)
 
     pub passes : Counted x → Passes (gone x k) number (arriving x k)
     unfolding gone arriving tradesRefused
@@ -297,7 +280,7 @@ module _ (x : Exchange) (w : WellFormed x) (k : Asked) (e : firstOf (changeRefus
           price = λ limit q. subst (λ (p : ℕ). allowedToday (listingOf (gone x k) (arriving x k) .contract) p ≡ true) (ap limitOf q) its-price;
           opens = open-lots (gone x k) (arriving x k) (reentry-passed .0);
           closes = close-lots (gone x k) (arriving x k) (reentry-passed .0);
-          stamp = stamps-left;
+          stamp = leb-false _ _ (reentry-passed .1 .1 .0);
           kill = λ h. absurd (false≢true h);
           trades = ltb-false _ _ (reentry-passed .1 .1 .1 .0);
           room = λ g full. absurd (omega (arith, has-room n, full));
@@ -311,8 +294,8 @@ module _ (x : Exchange) (w : WellFormed x) (k : Asked) (e : firstOf (changeRefus
     lost-keeps n = entry-keeps (reenters n)
 
     lost-counted : Counted x → Counted (exchangeAfter (gone x k) (arriving x k) (reentered x k) (x .next))
-    unfolding reentered
-    lost-counted n = entry-counted (reenters n) (gone-counted n)
+    unfolding reentered gone removed
+    lost-counted n = entry-counted (reenters n) (removed-counted (hasNumber number) x place there number n)
 
   -- ---- the place kept
 
@@ -357,18 +340,7 @@ module _ (x : Exchange) (w : WellFormed x) (k : Asked) (e : firstOf (changeRefus
     in-range-unmarked o h =
         let r = order-ok (length (x .accounts)) (x .next) (x .nextstamp) (listing .contract) o h in
         order-test (length (x .accounts)) (x .next) (x .nextstamp) (listing .contract) (unmarked o)
-        (record {
-          lots-low = r .lots-low;
-          lots-high = r .lots-high;
-          account = r .account;
-          price = r .price;
-          number-low = r .number-low;
-          number-high = r .number-high;
-          close = r .close;
-          stamp-low = r .stamp-low;
-          stamp-high = r .stamp-high;
-          quote = omega arith;
-        })
+        (search (needs, lots-high) depth 12)
 
     listing-less : ListingOk (length (x .accounts)) (x .next) (x .nextstamp) less
     listing-less =
@@ -436,10 +408,10 @@ module _ (x : Exchange) (w : WellFormed x) (k : Asked) (e : firstOf (changeRefus
       (λ q r s. kept-keeps q r)
 
   pub change-counted : Counted x → Each Counted (changed x k .stages)
-  unfolding cancelled removed placeLost unchanged placeKept
+  unfolding cancelled removed placeLost unchanged placeKept gone
   change-counted n =
       changed-either x k (λ ts f. Each Counted (f .stages))
       (λ q. (removed-counted (hasNumber number) x place there number n, tt))
-      (λ q. (gone-counted n, (lost-counted q n, tt)))
+      (λ q. (removed-counted (hasNumber number) x place there number n, (lost-counted q n, tt)))
       (λ q r. tt)
       (λ q r s. (kept-counted q r n, tt))

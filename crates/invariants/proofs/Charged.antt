@@ -1,14 +1,7 @@
 -- WHAT AN ACCOUNT IS CHARGED AFTER A STEP in one contract: no more than before, the lots of an open of its own included. A trade moves
 -- a resting open into the holding, or takes off what it closes; orders that go are charged no longer. Assumes nothing.
-use mathlib.Core.Bool.{Bool, true, false}
-use mathlib.Core.List.{List, _∷_}
-use mathlib.Core.Path.{_≡_, refl, sym, ap, ap₂, subst⁻¹, _∙_}
-use Prim.Native.Nat.{ℕ, zero, suc, _+_, _*_, _<_, _≤_}
-use native.Mathlib.Nat.{le-refl, mul-le-mul-left}
-use native.Mathlib.Omega.{arith}
-use borrow.Author.Tests.{eq-eqb}
-use lib.Dec.{eqb}
-use lib.ListN.{length, set, length-set}
+use Rattle.laws.specs.Logic.{Bool, true, false, List, _∷_, _≡_, refl, sym, ap, ap₂, subst⁻¹, _∙_}
+use Rattle.laws.specs.Numbers.{ℕ, zero, suc, _+_, _*_, _<_, _≤_, le-refl, mul-le-mul-left, arith, eq-eqb, eqb, length, set, length-set}
 use Rattle.laws.specs.Choice.{pick, pick-same, allOf}
 use Rattle.laws.specs.Lists.{at-set}
 use Rattle.rules.specs.Answers.{listingOf, mark, takerOf}
@@ -17,11 +10,7 @@ use Rattle.rules.specs.Holdings.{bookTrades}
 use Rattle.rules.specs.Margin.{charge, charged, chargedLots, chargedLotsWith, chargedTo, includedTo}
 use Rattle.rules.specs.Matching.{remainder}
 use Rattle.rules.specs.Step.{enteredOf, exchangeAfter, listingAfter}
-use Rattle.rules.specs.declared.Account.{Account}
-use Rattle.rules.specs.declared.Contract.{Contract}
-use Rattle.rules.specs.declared.NewOrder.{NewOrder}
-use Rattle.rules.specs.declared.Order.{Order}
-use Rattle.rules.specs.declared.Trade.{Trade}
+use Rattle.rules.specs.declared.{Account.Account, Contract.Contract, NewOrder.NewOrder, Order.Order, Trade.Trade}
 use Rattle.rules.proofs.Holdings.{other-holding}
 use Rattle.rules.proofs.LotsIncluded.{more-lots, no-lots}
 use Rattle.rules.proofs.Sweep.{ofContract}
@@ -117,14 +106,11 @@ module _ {x : Exchange} {number quote next : ℕ} {o : NewOrder} (entry : Entera
   abbrev bound : ℕ → ℕ
   bound a = chargedLotsWith (listingOf x o) a (holdingAt (x .accounts) a (place entry)) (o .sell) (arriving a)
 
-  arrived-opens : (a : ℕ) → restingOpens a (arrived entry ∷ mine entry) ≡ arriving a + restingOpens a (mine entry)
-  unfolding takerOf remainder
-  arrived-opens a = resting-cons 0 a (arrived entry) (mine entry)
-
   before-bound : Before entry bound
+  unfolding takerOf remainder
   before-bound a l =
       bounded (o .sell) (listingOf x o) (place entry) (contractLimit entry a) (arriving a) (x .accounts) a
-      (arrived entry) (arrived-opens a) (kept-before entry a l)
+      (arrived entry) (resting-cons 0 a (arrived entry) (mine entry)) (kept-before entry a l)
 
   lots-after : (a : ℕ) → a < length (x .accounts) → chargedLots (after entry) a (holdingAt (accountsAfter entry) a (place entry)) ≤ bound a
   unfolding listingAfter

@@ -1,25 +1,15 @@
 -- The clauses of "a state is well formed" as facts with names, and the two ways between them and the test of `WellFormed.antt`.
 -- Assumes nothing.
-use mathlib.Core.Bool.{Bool, true, false, not, _||_, true≢false}
-use mathlib.Core.List.{List, [], _∷_}
-use mathlib.Core.Path.{_≡_, refl}
-use Prim.Native.Nat.{ℕ, _+_, _*_, _<_, _≤_}
-use native.Mathlib.Omega.{arith}
-use borrow.Author.Tests.{leb-true, ltb-true, le-leb, lt-ltb}
-use lib.Dec.{leb, ltb, eqb}
 use lib.IntN.{natAbs}
-use lib.ListN.{length}
+use Rattle.laws.specs.Logic.{Bool, true, false, not, _||_, true≢false, List, [], _∷_, _≡_, refl}
+use Rattle.laws.specs.Numbers.{ℕ, _+_, _*_, _<_, _≤_, arith, leb-true, ltb-true, le-leb, lt-ltb, eqb, leb, ltb, length}
 use Rattle.laws.specs.Choice.{pick, all, allOf, all-at, all-true, allOf-at, allOf-true, both-true, true-both}
 use Rattle.laws.specs.Chains.{Passed, all-passed, join}
 use Rattle.rules.specs.Bounds.{within, allowedToday, inAuction, numbersEnd, maxContracts, maxTrades, maxResting, maxLots, maxSettlements, maxBalance, maxDayProfit}
 use Rattle.rules.specs.Exchange.{Exchange, Listing, listingAt, accountAt, holdingAt, own, restingOpens, restingCloses, noListing, noAccount}
 use Rattle.rules.specs.Holdings.{bookTrades, neverBelowZero, startOfDay, sameHoldings}
 use Rattle.rules.specs.WellFormed.{contractInRange, countersInRange, markInRange, rangesKept, sorted, uncrossed, queuesSorted, orderInRange, ordersInRange, allNumbers, allStamps, usedOnce, markAllowed, quotes, queueQuoted, listingQuoted, restingInRange, tradeInRange, replays, heldInRange, holdingInRange, holdingsInRange, balanceInRange, wellFormedContents}
-use Rattle.rules.specs.declared.Account.{Account}
-use Rattle.rules.specs.declared.Contract.{Contract}
-use Rattle.rules.specs.declared.Holding.{Holding}
-use Rattle.rules.specs.declared.Order.{Order}
-use Rattle.rules.specs.declared.Trade.{Trade}
+use Rattle.rules.specs.declared.{Account.Account, Contract.Contract, Holding.Holding, Order.Order, Trade.Trade}
 
 -- ---- a resting order
 
@@ -53,26 +43,11 @@ module _ (accounts next nextstamp : ℕ) (c : Contract) (o : Order) where
   unfolding orderInRange
   order-ok h =
       let p = all-passed (leb 1 (o .lots)) orderTests h in
-      record {
-        lots-low = omega (arith, leb-true);
-        lots-high = omega (arith, leb-true);
-        account = omega (arith, ltb-true);
-        price = p .1 .1 .1 .0;
-        number-low = omega (arith, leb-true);
-        number-high = omega (arith, ltb-true);
-        close = omega (arith, leb-true);
-        stamp-low = omega (arith, leb-true);
-        stamp-high = omega (arith, ltb-true);
-        quote = leb-true _ _ (p .1 .1 .1 .1 .1 .1 .1 .1 .1);
-      }
+      search (leb-true, ltb-true) depth 12
 
   pub order-test : OrderOk accounts next nextstamp c o → orderInRange accounts next nextstamp c o ≡ true
   unfolding orderInRange
-  order-test k =
-      join (leb 1 (o .lots)) orderTests (
-        omega (arith, le-leb),
-        (omega (arith, le-leb), (omega (arith, lt-ltb), (k .price, (omega (arith, le-leb), (omega (arith, lt-ltb), (omega (arith, le-leb), (omega (arith, le-leb), (omega (arith, lt-ltb), le-leb _ _ (k .quote))))))))),
-      )
+  order-test k = join (leb 1 (o .lots)) orderTests (search (le-leb, lt-ltb))
 
 -- ---- a contract with its queues; of a side, `sell` is false for the buys and true for the sells
 
@@ -188,56 +163,13 @@ module _ (x : Exchange) (t : Trade) where
   trade-ok h =
       let p = all-passed (ltb (t .contract) (length (x .listings))) tradeTests h in
       let q = both-true (leb 1 (t .lots)) (leb (t .lots) maxLots) (p .1 .1 .1 .1 .1 .1 .1 .1 .1 .0) in
-      record {
-        contract = omega (arith, ltb-true);
-        buyer = omega (arith, ltb-true);
-        seller = omega (arith, ltb-true);
-        two = p .1 .1 .1 .0;
-        buy-low = omega (arith, leb-true);
-        buy-high = omega (arith, ltb-true);
-        sell-low = omega (arith, leb-true);
-        sell-high = omega (arith, ltb-true);
-        price = p .1 .1 .1 .1 .1 .1 .1 .1 .0;
-        lots-low = omega (arith, leb-true);
-        lots-high = omega (arith, leb-true);
-        buyclose = omega (arith, leb-true);
-        sellclose = omega (arith, leb-true);
-      }
+      search (ltb-true, leb-true) depth 12
 
   pub trade-test : TradeOk x t → tradeInRange x t ≡ true
   unfolding tradeInRange
   trade-test k =
-      join (ltb (t .contract) (length (x .listings))) tradeTests (
-        omega (arith, lt-ltb),
-        (
-          omega (arith, lt-ltb),
-          (
-            omega (arith, lt-ltb),
-            (
-              k .two,
-              (
-                omega (arith, le-leb),
-                (
-                  omega (arith, lt-ltb),
-                  (
-                    omega (arith, le-leb),
-                    (
-                      omega (arith, lt-ltb),
-                      (
-                        k .price,
-                        (
-                          true-both (leb 1 (t .lots)) (leb (t .lots) maxLots) (omega (arith, le-leb)) (omega (arith, le-leb)),
-                          (omega (arith, le-leb), omega (arith, le-leb)),
-                        ),
-                      ),
-                    ),
-                  ),
-                ),
-              ),
-            ),
-          ),
-        ),
-      )
+      let lots : within 1 maxLots (t .lots) ≡ true = true-both (leb 1 (t .lots)) (leb (t .lots) maxLots) (omega (arith, le-leb)) (omega (arith, le-leb)) in
+      join (ltb (t .contract) (length (x .listings))) tradeTests (search (le-leb, lt-ltb) depth 14)
 
 -- ---- what an account holds in a contract. Opens of a side add to `held sell`, closes of a side lower `held (not sell)`.
 
@@ -274,13 +206,8 @@ module _ (m : Listing) (a : ℕ) (h : Holding) where
   pub holding-test : HoldingOk m a h → holdingInRange m a h ≡ true
   unfolding heldInRange holdingInRange
   holding-test k =
-      join (leb (h .startlong) (m .contract .limit)) holdingTests (
-        omega (arith, le-leb),
-        (
-          omega (arith, le-leb),
-          (le-leb _ _ (k .opens false), (le-leb _ _ (k .opens true), (le-leb _ _ (k .closes true), le-leb _ _ (k .closes false)))),
-        ),
-      )
+      join (leb (h .startlong) (m .contract .limit)) holdingTests
+      (search (le-leb, k .opens false, k .opens true, k .closes false, k .closes true))
 
 -- ---- the whole state
 

@@ -1,9 +1,7 @@
 -- CONDITION 3 OF THE RULES, and of every memory that a call leaves: for every list of commands, from every memory whose arrays
 -- have the places of their types. Accounting proves it from two facts about one command, which stand in `MemoryKeeps.antt`.
 -- Assumes nothing.
-use mathlib.Core.Bool.{true}
-use mathlib.Core.List.{List, _++_}
-use mathlib.Core.Path.{_≡_, subst⁻¹}
+use Rattle.laws.specs.Logic.{true, List, _++_, _≡_, subst⁻¹}
 use Rattle.rules.specs.Condition3.{run, Condition3, Loaded, MoneyKept, loaded}
 use Rattle.rules.specs.Memory.{Memory, Declared, exchangeOf, wellFormedMemory}
 use Rattle.rules.specs.declared.Command.{Command}

@@ -2,16 +2,9 @@
 -- range; ORDER NUMBERS STAY, AND TIME STAMPS ARE NEVER GIVEN TWICE IN A DAY (document 02, ticket 8); what becomes of the orders of an
 -- account that it does not name; NO COMMAND CHANGES A MAKER MARK (ticket 7); IT RECORDS THE TRADES THAT IT MAKES; WHAT IS CHARGED and WHICH
 -- BALANCES ARE READ (specs/Accounts). The laws that the clauses cite name no kind. Assumes nothing.
-use mathlib.Core.Bool.{Bool, true, false, true≢false, false≢true}
-use mathlib.Core.List.{List, [], _∷_, _++_, append-nil}
-use mathlib.Core.Path.{_≡_, refl, sym, ap, _∙_}
-use Prim.Native.Nat.{ℕ, _+_, _<_, _≤_}
-use native.Mathlib.Nat.{le-refl}
-use native.Mathlib.Omega.{arith}
-use borrow.Author.Tests.{eqb-false, ne-eqb, not-true}
-use lib.Dec.{eqb}
-use lib.ListN.{length}
-use Rattle.laws.specs.Choice.{both-true}
+use Rattle.laws.specs.Logic.{Bool, true, false, true≢false, false≢true, List, [], _∷_, _++_, append-nil, _≡_, refl, sym, ap, _∙_}
+use Rattle.laws.specs.Numbers.{ℕ, _+_, _<_, _≤_, le-refl, arith, eqb-false, ne-eqb, not-true, eqb, length}
+use Rattle.laws.specs.Choice.{both-true, by-test}
 use Rattle.rules.specs.Auction.{matchOf}
 use Rattle.rules.specs.Change.{asked}
 use Rattle.rules.specs.Command.{Field, unused, holds, accountField, isChange, isSettle}
@@ -92,11 +85,8 @@ step-keeps x command k =
 -- the same of the test. The counts stand beside it because it does not speak of them: of a state with a thousand contracts one
 -- settlement could pass the bound of a balance.
 module _ (x : Exchange) (command : Command) (counts : Counted x) (w : wellFormedContents x ≡ true) where
-  after : Sound (step x command)
-  after = step-keeps x command (record { contents = well-formed x w; counts = counts })
-
   pub keeps : wellFormedContents (step x command) ≡ true
-  keeps = well-formed-test (step x command) (after .contents)
+  keeps = well-formed-test (step x command) (step-keeps x command (record { contents = well-formed x w; counts = counts }) .contents)
 
 -- ---- order numbers and time stamps
 
@@ -158,11 +148,9 @@ kind-alike x (Change account contract number lots price) n e = absurd (true≢fa
 
 kind-stamped : (x : Exchange) (command : Command) → isChange command ≡ false → StampsAsNumbers x → StampsAsNumbers (lastOf x (kindOf x command .effect .stages))
 unfolding kindOf settledAll
-kind-stamped x command n h = by-settle (isSettle command) refl
-  where
-    by-settle : (settles : Bool) → isSettle command ≡ settles → StampsAsNumbers (lastOf x (kindOf x command .effect .stages))
-    by-settle true s = rw (settle-is command s) (settled-stamped x)
-    by-settle false s = entered-stamped x _ h (enters x command) (kind-alike x command n (h .next)) (kind-onward x command s .0)
+kind-stamped x command n h =
+    by-test (isSettle command) (λ s. rw (settle-is command s) (settled-stamped x))
+    (λ s. entered-stamped x _ h (enters x command) (kind-alike x command n (h .next)) (kind-onward x command s .0))
 
 -- EVERY COMMAND BUT A CHANGE LEAVES TIME STAMPS AS NUMBERS
 pub stamps-as-numbers : (x : Exchange) (command : Command) → isChange command ≡ false → StampsAsNumbers x → StampsAsNumbers (step x command)

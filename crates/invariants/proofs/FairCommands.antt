@@ -1,12 +1,7 @@
 -- LAWS 8 TO 13 (rules, specs/FairCommands) OF EVERY COMMAND on a well-formed state: an insert, both orders of a quote, a change that loses its place,
 -- and a change of state that leaves auction; throughout a run, and of the memory that a call leaves. Assumes nothing.
-use mathlib.Core.Bool.{Bool, true, false}
-use mathlib.Core.List.{List, [], _∷_, _++_}
-use mathlib.Core.Path.{_≡_, refl, ap, subst⁻¹, _∙_}
-use Prim.Native.Nat.{ℕ, _+_, _<_}
-use native.Mathlib.Omega.{arith}
-use lib.ListN.{length}
-use lib.Seq.{getD-set-same}
+use Rattle.laws.specs.Logic.{Bool, true, false, List, [], _∷_, _++_, _≡_, refl, ap, subst⁻¹, _∙_}
+use Rattle.laws.specs.Numbers.{ℕ, _+_, _<_, arith, length, getD-set-same}
 use Rattle.laws.specs.Choice.{pick, pick-true}
 use Rattle.rules.specs.Answers.{phaseRefusals}
 use Rattle.rules.specs.Auction.{matchOf}
@@ -20,10 +15,9 @@ use Rattle.rules.specs.Kinds.{codeOf, kindOf, lastOf, step}
 use Rattle.rules.specs.Memory.{Memory, exchangeOf, respond, wellFormedMemory}
 use Rattle.rules.specs.Quote.{Offered, quoted, withBuy, withSell}
 use Rattle.rules.specs.Step.{Effect, exchangeMatched, inserted, listingMatched, phaseChanged}
-use Rattle.rules.specs.WellFormed.{numbers, sorted, usedOnce}
-use Rattle.rules.specs.declared.Command.{Command}
+use Rattle.rules.specs.WellFormed.{numbers, usedOnce}
+use Rattle.rules.specs.declared.{Command.Command, NewOrder.NewOrder}
 use Rattle.rules.specs.declared.Command.the-variants.{Insert, Phase, Quote, Change}
-use Rattle.rules.specs.declared.NewOrder.{NewOrder}
 use Rattle.rules.proofs.Changes.{lost-changed}
 use Rattle.rules.proofs.Refusals.{failed, present}
 use Rattle.rules.proofs.Stages.{decided}
@@ -94,9 +88,6 @@ module _ (x : Exchange) (k : Sound x) (contract phase : ℕ) (e : codeOf x (Phas
   unfolding codeOf kindOf phaseRefusals
   there = present contract (x .listings) (failed (kindOf x (Phase contract phase) .refusals) (omega arith) e .1 .0)
 
-  in-order : (sell : Bool) → sorted sell (pick sell (listingAt x c .sells) (listingAt x c .buys)) ≡ true
-  in-order = k .contents .listing c there .order
-
   used-once : (sell : Bool) → usedOnce (numbers (pick sell (listingAt x c .sells) (listingAt x c .buys))) ≡ true
   unfolding listingAt
   used-once = once-each (x .listings) (k .contents .once) c
@@ -113,18 +104,14 @@ module _ (x : Exchange) (k : Sound x) (contract phase : ℕ) (e : codeOf x (Phas
 
   left-queues : (sell : Bool) → own sell (listingAt (exchangeMatched x c phase (auctionOf x c)) c) ≡ leftOn sell (auctionOf x c)
   unfolding listingMatched
-  left-queues sell = ap (own sell) left-listing ∙ by-side sell
-    where
-      by-side : (s : Bool) → own s (listingMatched (listingAt x c) phase (auctionOf x c)) ≡ leftOn s (auctionOf x c)
-      by-side true = refl
-      by-side false = refl
+  left-queues sell = ap (own sell) left-listing ∙ (elim sell [ false ↦ refl | true ↦ refl ])
 
   auction-held : AuctionHeld x c phase (step x (Phase contract phase))
   unfolding exchangeMatched
   auction-held =
       record {
         price = largest-volume (contractAt x c .last) (listingAt x c .buys) (listingAt x c .sells);
-        trades = best-auction c (contractAt x c .last) (listingAt x c .buys) (listingAt x c .sells) in-order used-once;
+        trades = best-auction c (contractAt x c .last) (listingAt x c .buys) (listingAt x c .sells) (k .contents .listing c there .order) used-once;
         leaves = ends-auction;
         queues = λ sell. ap (λ (y : Exchange). own sell (listingAt y c)) ends-auction ∙ left-queues sell;
         recorded = ap (λ (y : Exchange). y .trades) ends-auction;

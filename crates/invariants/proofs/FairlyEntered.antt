@@ -1,25 +1,18 @@
 -- Laws 8 to 11 (rules, specs/Fairness) of every order that is entered on a well-formed state, having passed its tests. Assumes nothing.
-use mathlib.Core.Bool.{Bool, true, false, not, true≢false}
-use mathlib.Core.List.{List, [], _∷_, _++_}
-use mathlib.Core.Path.{_≡_, refl, sym, ap, subst⁻¹, _∙_}
-use Prim.Native.Nat.{ℕ, zero, suc, _+_, min}
-use native.Mathlib.Omega.{arith}
-use lib.Dec.{eqb}
-use lib.ListN.{length, getD}
-use lib.Seq.{getD-set-same}
-use Rattle.laws.specs.Choice.{allOf, allOf-imp, pick}
+use borrow.Author.Needs.{needs}
+use Rattle.laws.specs.Logic.{Bool, true, false, not, true≢false, List, [], _∷_, _++_, _≡_, refl, sym, ap, subst⁻¹, _∙_}
+use Rattle.laws.specs.Numbers.{ℕ, zero, suc, _+_, min, arith, eqb, length, getD, getD-set-same}
+use Rattle.laws.specs.Choice.{allOf, allOf-imp, pick, by-test}
 use Rattle.laws.specs.Sums.{sumOf}
 use Rattle.rules.specs.Answers.{fillableLots, isFillOrKill, isGoodForDay, listingOf, takerOf}
 use Rattle.rules.specs.Bounds.{inAuction, onTick}
 use Rattle.rules.specs.Exchange.{Exchange, Listing, listingAt, lotsWhere, noListing, opposite, own, placeOf}
 use Rattle.rules.specs.FairCommands.{Entering, FairlyEntered}
 use Rattle.rules.specs.Fairness.{AtLimitOrBetter, LotsAccounted, NothingBetterLeft, PriceThenTime, lotsNumbered, lotsTraded}
-use Rattle.rules.specs.Matching.{Entered, enter, fillable, remainder, restLots, restWhole, restedLots, sweep, tradedLots}
+use Rattle.rules.specs.Matching.{Entered, enter, fillable, remainder, restLots, restWhole, restedLots, tradedLots}
 use Rattle.rules.specs.Step.{enteredOf, exchangeAfter, limitOf, listingAfter}
 use Rattle.rules.specs.WellFormed.{allListed, allNumbers, listed, numbers, orderInRange, sorted, usedOnce}
-use Rattle.rules.specs.declared.NewOrder.{NewOrder}
-use Rattle.rules.specs.declared.Order.{Order}
-use Rattle.rules.specs.declared.Taker.{Taker}
+use Rattle.rules.specs.declared.{NewOrder.NewOrder, Order.Order, Taker.Taker}
 use Rattle.rules.specs.declared.TimeCondition.the-variants.{FillOrKill}
 use Rattle.rules.proofs.AuctionSteps.{entered-either, entered-elsewhere, enteredBySweep}
 use Rattle.rules.proofs.Fillable.{swept-at-most, swept-fillable, traded-nil}
@@ -51,14 +44,7 @@ none-priority sell os = record { filled = λ i j h k a some. absurd (omega arith
 
 none-limits : (t : Taker) (os : List Order) → AtLimitOrBetter t os []
 unfolding allOf
-none-limits t os =
-    record {
-      turns = record { order = λ i h. absurd (omega arith); account = λ i h. absurd (omega arith) };
-      limited =
-          λ limit c. record { turns = record { order = λ i h. absurd (omega arith); account = λ i h. absurd (omega arith) }; each = λ i h. absurd (omega arith) };
-      resting = λ c i h. absurd (omega arith);
-      single = λ c. refl;
-    }
+none-limits t os = search needs depth 12
 
 module _ (x : Exchange) (k : WellFormed x) (number quote : ℕ) (o : NewOrder) (p : Passes x number o) where
   abbrev t : Taker
@@ -106,10 +92,6 @@ module _ (x : Exchange) (k : WellFormed x) (number quote : ℕ) (o : NewOrder) (
   unfolding fillable takerOf fillableLots
   fillable-is = refl
 
-  sweep-most : tradedLots (sweep t (o .lots) last queue .trades) ≡ min (o .lots) (fillable t queue)
-  unfolding takerOf
-  sweep-most = swept-fillable t (o .lots) last queue in-order refl
-
   -- ---- 11, of the order
 
   its-lots : lotsTraded (t .sell) number (enteredOf x number quote o .trades) ≡ tradedLots (enteredOf x number quote o .trades)
@@ -119,16 +101,12 @@ module _ (x : Exchange) (k : WellFormed x) (number quote : ℕ) (o : NewOrder) (
       (λ a. swept-its t (o .lots) last queue)
 
   most-traded : inAuction (l .contract) ≡ false → tradedLots (enteredOf x number quote o .trades) ≡ min (o .lots) (fillable t queue)
-  unfolding enter
-  most-traded a = by-sweep (λ e. tradedLots (e .trades) ≡ min (o .lots) (fillable t queue)) a sweep-most
+  unfolding enter takerOf
+  most-traded a = by-sweep (λ e. tradedLots (e .trades) ≡ min (o .lots) (fillable t queue)) a (swept-fillable t (o .lots) last queue in-order refl)
 
   -- fill or kill is entered outside auction alone, and can be filled
   not-auctioned : isGoodForDay (o .time) ≡ false → inAuction (l .contract) ≡ false
-  not-auctioned g = by-auction (inAuction (l .contract)) refl
-    where
-      by-auction : (a : Bool) → inAuction (l .contract) ≡ a → inAuction (l .contract) ≡ false
-      by-auction true e = absurd (true≢false (sym (p .rests e) ∙ g))
-      by-auction false e = e
+  not-auctioned g = by-test (inAuction (l .contract)) (λ e. absurd (true≢false (sym (p .rests e) ∙ g))) (λ e. e)
 
   whole-traded : o .time ≡ FillOrKill → tradedLots (enteredOf x number quote o .trades) ≡ o .lots
   whole-traded e = omega (arith, most-traded (not-auctioned (ap isGoodForDay e)), fillable-is, p .kill (ap isFillOrKill e))

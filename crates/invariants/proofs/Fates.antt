@@ -1,13 +1,7 @@
 -- An account's orders in a queue while others trade (`Fate`): where the queue is left as it is, where orders are taken out or one comes to
 -- rest, in a sweep and in an auction's match; and where numbers are used once, order by order (`Kept` of specs/RestingOrders). Assumes nothing.
-use mathlib.Core.Bool.{Bool, true, false, not, _&&_, _||_, false≢true}
-use mathlib.Core.List.{List, [], _∷_, _++_}
-use mathlib.Core.Logic.{_⊎_, inl, inr, ⊎-elim}
-use mathlib.Core.Path.{_≡_, refl, sym, ap, _∙_, subst}
-use Prim.Native.Nat.{ℕ, zero, suc, _+_, _-_, _≤_, min}
-use native.Mathlib.Omega.{arith}
-use borrow.Author.Tests.{eq-eqb, eqb-true, not-true, le-leb, leb-true, ltb-true, ltb-false}
-use lib.Dec.{eqb, ltb}
+use Rattle.laws.specs.Logic.{Bool, true, false, not, _&&_, _||_, false≢true, List, [], _∷_, _++_, _⊎_, ⊎-elim, inl, inr, _≡_, refl, sym, ap, subst, _∙_}
+use Rattle.laws.specs.Numbers.{ℕ, zero, suc, _+_, _-_, _≤_, min, arith, eqb-true, leb-true, ltb-true, ltb-false, eq-eqb, le-leb, not-true, eqb, ltb}
 use Rattle.laws.specs.Choice.{pick, allOf, allOf-append, allOf-imp, both-false, both-true, true-both, true-either, either-true}
 use Rattle.laws.specs.Sums.{sumOf, sumOf-append}
 use Rattle.rules.specs.Auction.{Matched, lessFirst, matchAt, paired, reaches, tradeAt, unmatched}
@@ -19,13 +13,9 @@ use Rattle.rules.specs.Matching.{counterpart, meets, pairedPrice, remainder, re
 use Rattle.rules.specs.Step.{hasNumber, isOf}
 use Rattle.rules.specs.Touches.{ordersOf}
 use Rattle.rules.specs.WellFormed.{numberOf}
-use Rattle.rules.specs.declared.Order.{Order}
-use Rattle.rules.specs.declared.PairingMethod.{PairingMethod}
+use Rattle.rules.specs.declared.{Order.Order, PairingMethod.PairingMethod, PriceCondition.PriceCondition, Taker.Taker, Trade.Trade}
 use Rattle.rules.specs.declared.PairingMethod.the-variants.{Middle, Average, FirstIn}
-use Rattle.rules.specs.declared.PriceCondition.{PriceCondition}
 use Rattle.rules.specs.declared.PriceCondition.the-variants.{Limit, Market, Best}
-use Rattle.rules.specs.declared.Taker.{Taker}
-use Rattle.rules.specs.declared.Trade.{Trade}
 use Rattle.rules.proofs.AuctionTurns.{less-filled, less-part, match-ind}
 use Rattle.rules.proofs.AuctionUncrossed.{hasLots}
 use Rattle.rules.proofs.Prices.{RoundsTo, average-above, average-high, middle-high, middle-low}
@@ -38,8 +28,7 @@ use Rattle.invariants.specs.RestingOrders.{Kept, atItsLimit, isOfAccount
 -- the second list is the first, in its order, but that orders may have fewer lots or be gone
 abbrev pub Fewer : List Order → List Order → Type 0
 Fewer [] after = after ≡ []
-Fewer (o ∷ os) after =
-    Fewer os after ⊎ ((lots : ℕ) × (ps : List Order) × (lots ≤ o .lots) × (after ≡ withLots o lots ∷ ps) × Fewer os ps)
+Fewer (o ∷ os) after = Fewer os after ⊎ ((lots : ℕ) × (ps : List Order) × (lots ≤ o .lots) × (after ≡ withLots o lots ∷ ps) × Fewer os ps)
 
 -- an account's orders in a queue before and after some trades: none is new, none has changed but to fewer lots, of each number the lots
 -- before are the lots left and the lots traded, and each trade of the account was with one of them at its limit or better

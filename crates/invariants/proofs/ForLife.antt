@@ -1,15 +1,7 @@
 -- Numbers and time stamps for life, from one state to another: what composes, and one law for each way in which a command changes queues.
 -- What each kind does stands in `EachKind`. Assumes nothing.
-use mathlib.Core.Bool.{Bool, true, false, _&&_, _||_, true≢false, false≢true}
-use mathlib.Core.List.{List, [], _∷_, _++_}
-use mathlib.Core.Logic.{_≢_}
-use mathlib.Core.Path.{_≡_, refl, sym, ap, _∙_}
-use Prim.Native.Nat.{ℕ, _+_, _≤_}
-use native.Mathlib.Nat.{le-refl}
-use native.Mathlib.Omega.{arith}
-use borrow.Author.Tests.{eq-eqb, eqb-false, eqb-true, le-leb, leb-true, not-false}
-use lib.Dec.{eqb, leb}
-use lib.ListN.{getD}
+use Rattle.laws.specs.Logic.{Bool, true, false, _&&_, _||_, true≢false, false≢true, List, [], _∷_, _++_, _≢_, _≡_, refl, sym, ap, _∙_}
+use Rattle.laws.specs.Numbers.{ℕ, _+_, _≤_, le-refl, arith, eqb-true, eqb-false, leb-true, eq-eqb, le-leb, not-false, eqb, leb, getD}
 use Rattle.laws.specs.Choice.{pick, allOf, allOf-imp, both-true, true-both, true-either, either-true}
 use Rattle.rules.specs.Answers.{firstOf, mark, noSuchOrder, numbered, ofAnother, restingOrder, takerOf}
 use Rattle.rules.specs.Auction.{matchOf}
@@ -20,8 +12,7 @@ use Rattle.rules.specs.Matching.{remainder}
 use Rattle.rules.specs.Quote.{Offered, buyOf, quoted, sellOf, withBuy, withSell, withoutQuote}
 use Rattle.rules.specs.Step.{cancelled, enteredOf, exchangeAfter, exchangeMatched, hasNumber, isOf, listingWithout, removed, withListing}
 use Rattle.rules.specs.WellFormed.{isQuoteOf}
-use Rattle.rules.specs.declared.NewOrder.{NewOrder}
-use Rattle.rules.specs.declared.Order.{Order}
+use Rattle.rules.specs.declared.{NewOrder.NewOrder, Order.Order}
 use Rattle.rules.proofs.AuctionTaken.{KeptWithFewer}
 use Rattle.rules.proofs.Changes.{changed-either}
 use Rattle.invariants.proofs.AllResting.{AllResting, entered-resting, lessened-resting, matched-resting, without-resting}

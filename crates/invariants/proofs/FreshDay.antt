@@ -1,25 +1,18 @@
 -- A state at the start of a day, with no orders and no trades: after a settlement, or as a day file opens it. It is well formed
 -- if its contracts, makers' marks, holdings and balances are in range. Assumes nothing.
-use mathlib.Core.Bool.{Bool, true, false}
-use mathlib.Core.List.{List, []}
-use mathlib.Core.Path.{_≡_, refl, sym, ap, _∙_}
-use Prim.Native.Nat.{ℕ, zero, suc, _+_, _*_, _<_, _≤_}
-use native.Mathlib.Omega.{arith}
 use lib.IntN.{natAbs}
-use lib.ListN.{length, getD, List·getD-map}
-use Rattle.laws.specs.Choice.{pick, allOf}
+use Rattle.laws.specs.Logic.{true, false, [], _≡_, refl, sym, ap, _∙_}
+use Rattle.laws.specs.Numbers.{ℕ, zero, suc, _+_, _*_, _<_, _≤_, arith, getD, List·getD-map}
+use Rattle.laws.specs.Choice.{allOf}
 use Rattle.laws.specs.Sums.{sumOf}
 use Rattle.laws.specs.Tabulate.{tabulate, length-tabulate, getD-tabulate}
-use Rattle.rules.specs.Bounds.{maxContracts, maxResting, maxSettlements, maxBalance, maxDayProfit}
+use Rattle.rules.specs.Bounds.{maxContracts, maxSettlements, maxBalance, maxDayProfit}
 use Rattle.rules.specs.Exchange.{Exchange, Listing, listingAt, accountAt, holdingAt, noListing, noAccount, noHolding, lotsWhere, resting}
 use Rattle.rules.specs.Holdings.{bookTrades, neverBelowZero, startHolding, startAccount, startOfDay}
 use Rattle.rules.specs.WellFormed.{contractInRange, sorted, uncrossed, numberOf, stampOf, usedOnce, listed, allListed}
-use Rattle.rules.specs.declared.Account.{Account}
-use Rattle.rules.specs.declared.Contract.{Contract}
-use Rattle.rules.specs.declared.Holding.{Holding}
-use Rattle.rules.specs.declared.Order.{Order}
+use Rattle.rules.specs.declared.{Account.Account, Contract.Contract, Holding.Holding, Order.Order}
 use Rattle.rules.proofs.Holdings.{same-refl}
-use Rattle.invariants.proofs.Clauses.{ListingOk, HoldingOk, MarksOk, WellFormed, Counted}
+use Rattle.invariants.proofs.Clauses.{ListingOk, HoldingOk, WellFormed, Counted}
 use Rattle.invariants.proofs.Marks.{no-marks}
 
 abbrev pub quiet : Contract → Listing
@@ -30,8 +23,7 @@ freshDay contracts contract accounts account settlements =
     record {
       listings = tabulate contracts (λ c. quiet (contract c));
       accounts = tabulate accounts account;
-      trades =
-          [];
+      trades = [];
       next = 1;
       nextstamp = 1;
       settlements = settlements;
@@ -65,10 +57,6 @@ unfolding tabulate allListed listed
 no-orders field zero contract = refl
 no-orders field (suc n) contract = no-orders field n (λ c. contract (suc c))
 
-once-none : usedOnce [] ≡ true
-unfolding usedOnce
-once-none = refl
-
 same-start : (n : ℕ) (account : ℕ → Account) → ((a : ℕ) → startAccount (account a) ≡ account a) → startOfDay (tabulate n account) ≡ tabulate n account
 unfolding tabulate startOfDay
 same-start zero account h = refl
@@ -95,24 +83,24 @@ module _ (contracts : ℕ) (contract : ℕ → Contract) (accounts : ℕ) (accou
   holding-at a c l = rw (account-at a l)
 
   start-at : (a c : ℕ) → startHolding (getD (account a .holdings) c noHolding) ≡ getD (account a .holdings) c noHolding
-  start-at a c =
-      sym (List·getD-map startHolding (account a .holdings) c noHolding) ∙ ap (λ (k : Account). getD (k .holdings) c noHolding) (start a)
+  start-at a c = sym (List·getD-map startHolding (account a .holdings) c noHolding) ∙ ap (λ (k : Account). getD (k .holdings) c noHolding) (start a)
 
   pub fresh-counted : contracts ≤ maxContracts → Counted day
   fresh-counted h =
       let n = length-tabulate contracts (λ c. quiet (contract c)) in
-      record { contracts = rw n h; trades = omega arith; queues = λ c sell l. rw (listing-at c (rw n at l)) (none sell) }
-    where
-      none : (sell : Bool) → length (pick {A = List Order} sell [] []) ≤ maxResting
-      none true = omega arith
-      none false = omega arith
+      record {
+        contracts = rw n h;
+        trades = omega arith;
+        queues = λ c sell l. rw (listing-at c (rw n at l))
+            (elim sell [ false ↦ omega arith | true ↦ omega arith ]);
+      }
 
   pub fresh-day : settlements ≤ maxSettlements → ((a : ℕ) → a < accounts → account a .maker ≤ 1) →
       ((a c : ℕ) → a < accounts → c < contracts → getD (account a .holdings) c noHolding .long ≤ contract c .limit) →
       ((a c : ℕ) → a < accounts → c < contracts → getD (account a .holdings) c noHolding .short ≤ contract c .limit) →
       ((a : ℕ) → a < accounts → natAbs (account a .balance) ≤ maxBalance + settlements * maxDayProfit) →
       WellFormed day
-  unfolding bookTrades neverBelowZero allOf
+  unfolding bookTrades neverBelowZero allOf usedOnce
   fresh-day few makers longs shorts balances =
       let nc = length-tabulate contracts (λ c. quiet (contract c)) in
       let na = length-tabulate accounts account in
@@ -123,9 +111,9 @@ module _ (contracts : ℕ) (contract : ℕ → Contract) (accounts : ℕ) (accou
         nextstamp-high = omega arith;
         settlements = few;
         listing = λ c l. let h : c < contracts = rw nc at l in rw (listing-at c h) (listing-quiet _ 1 1 (contract c) (in-range c h));
-        once = rw (no-orders numberOf contracts contract) once-none;
-        stamps-once = rw (no-orders stampOf contracts contract) once-none;
-        marks = λ c l sell. rw (listing-at c (rw nc at l)) (none sell);
+        once = rw (no-orders numberOf contracts contract) refl;
+        stamps-once = rw (no-orders stampOf contracts contract) refl;
+        marks = λ c l sell. rw (listing-at c (rw nc at l)) (elim sell [ false ↦ no-marks (day .accounts) | true ↦ no-marks (day .accounts) ]);
         makers = λ a l. let h : a < accounts = rw na at l in rw (account-at a h) (makers a h);
         trades = refl;
         covered = refl;
@@ -136,7 +124,3 @@ module _ (contracts : ℕ) (contract : ℕ → Contract) (accounts : ℕ) (accou
             rw (listing-at c q, holding-at a c p) (holding-quiet (contract c) a _ (start-at a c) (longs a c p q) (shorts a c p q));
         balance = λ a l. let h : a < accounts = rw na at l in rw (account-at a h) (balances a h);
       }
-    where
-      none : (sell : Bool) → MarksOk (day .accounts) (pick {A = List Order} sell [] [])
-      none true = no-marks (day .accounts)
-      none false = no-marks (day .accounts)

@@ -1,13 +1,8 @@
 -- ORDER NUMBERS AND TIME STAMPS ARE NEVER GIVEN TWICE IN A DAY; AN ORDER KEEPS ITS NUMBER FOR LIFE: the theorems in the words of
 -- specs/GivenNumbers.antt. Assumes nothing.
-use mathlib.Core.Bool.{Bool, true, false, not}
-use mathlib.Core.List.{List, [], _∷_, _++_}
-use mathlib.Core.Path.{_≡_, refl, ap, _∙_}
-use Prim.Native.Nat.{ℕ, zero, suc, _+_, _-_, _≤_}
-use native.Mathlib.Omega.{arith}
-use borrow.Author.Tests.{le-leb, leb-true, ne-eqb, not-true}
-use lib.Dec.{eqb, leb}
-use Rattle.laws.specs.Choice.{allOf, allOf-imp, both-true, true-both}
+use Rattle.laws.specs.Logic.{true, false, not, List, [], _∷_, _++_, _≡_, refl, ap, _∙_}
+use Rattle.laws.specs.Numbers.{ℕ, zero, suc, _+_, _-_, _≤_, arith, leb-true, ne-eqb, le-leb, not-true, eqb, leb}
+use Rattle.laws.specs.Choice.{allOf, allOf-imp, both-true, true-both, by-test}
 use Rattle.rules.specs.Command.{isSettle}
 use Rattle.rules.specs.Exchange.{Exchange}
 use Rattle.rules.specs.Kinds.{decide, step}
@@ -61,17 +56,13 @@ once-more n k next given ns e f o =
     let b : From (n + k) ns = rw (← f) (o .0) in
     rw e (up-from n k ns b, up-once n k ns b (o .1))
 
-none-once : (n : ℕ) → Once n []
-unfolding allOf usedOnce
-none-once n = (refl, refl)
-
 answered : (m : Memory) (c : Command) → wellFormedMemory m ≡ true → respond m c .answer ≡ decide (exchangeOf m) c .answer
 unfolding respond stepIn
 answered m c w = rw w refl
 
 numbers-once : (m : Memory) → wellFormedMemory m ≡ true → (cs : List Command) → withinDay cs ≡ true → Once (exchangeOf m .next) (allNumbersGiven m cs)
-unfolding allNumbersGiven allOf
-numbers-once m w [] d = none-once (exchangeOf m .next)
+unfolding allNumbersGiven allOf usedOnce
+numbers-once m w [] d = (refl, refl)
 numbers-once m w (c ∷ cs) d =
     let b = both-true (not (isSettle c)) (withinDay cs) d in
     let g = step-given (exchangeOf m) c (not-true (isSettle c) (b .0)) in
@@ -80,8 +71,8 @@ numbers-once m w (c ∷ cs) d =
     (numbers-once (respond m c .memory) (memory-keeps m c w) cs (b .1))
 
 stamps-once : (m : Memory) → wellFormedMemory m ≡ true → (cs : List Command) → withinDay cs ≡ true → Once (exchangeOf m .nextstamp) (allStampsGiven m cs)
-unfolding allStampsGiven allOf
-stamps-once m w [] d = none-once (exchangeOf m .nextstamp)
+unfolding allStampsGiven allOf usedOnce
+stamps-once m w [] d = (refl, refl)
 stamps-once m w (c ∷ cs) d =
     let b = both-true (not (isSettle c)) (withinDay cs) d in
     let r : exchangeOf m .nextstamp ≤ exchangeOf (respond m c .memory) .nextstamp = rw (read-back m c w) (stamps-rise (exchangeOf m) c (not-true (isSettle c) (b .0))) in
@@ -108,8 +99,6 @@ no-stamps m w (c ∷ cs) = let z : exchangeOf m .nextstamp - exchangeOf m .nexts
 -- NUMBERS AND TIME STAMPS ARE NEVER GIVEN TWICE IN A DAY, whatever the memory
 pub given-once : (m : Memory) (cs : List Command) → withinDay cs ≡ true → GivenOnce m cs
 unfolding usedOnce
-given-once m cs d = by-wellformed (wellFormedMemory m) refl
-  where
-    by-wellformed : (t : Bool) → wellFormedMemory m ≡ t → GivenOnce m cs
-    by-wellformed true w = record { numbers = numbers-once m w cs d .1; stamps = stamps-once m w cs d .1 }
-    by-wellformed false w = record { numbers = rw (no-numbers m w cs) refl; stamps = rw (no-stamps m w cs) refl }
+given-once m cs d =
+    by-test (wellFormedMemory m) (λ w. record { numbers = numbers-once m w cs d .1; stamps = stamps-once m w cs d .1 })
+    (λ w. record { numbers = rw (no-numbers m w cs) refl; stamps = rw (no-stamps m w cs) refl })

@@ -1,16 +1,9 @@
 -- An order that is entered keeps a state well formed: its trades, what rests of it, the number it has and the time stamp it took; in
 -- auction it rests whole. An accepted insert enters its order with the next number.
 -- Assumes nothing.
-use mathlib.Core.Bool.{Bool, true, false, not, _&&_, true≢false}
-use mathlib.Core.List.{List, [], _∷_}
-use mathlib.Core.Path.{_≡_, refl, sym, ap, subst, _∙_}
-use Prim.Native.Nat.{ℕ, _+_, _-_, _<_, _≤_}
-use native.Mathlib.Nat.{le-refl}
-use native.Mathlib.Omega.{arith}
-use borrow.Author.Tests.{eqb-true, leb-true, leb-false}
-use lib.Dec.{leb, eqb}
-use lib.ListN.{length}
-use Rattle.laws.specs.Choice.{pick, allOf}
+use Rattle.laws.specs.Logic.{Bool, true, false, not, _&&_, true≢false, List, [], _∷_, _≡_, refl, sym, ap, subst, _∙_}
+use Rattle.laws.specs.Numbers.{ℕ, _+_, _-_, _<_, _≤_, le-refl, arith, eqb-true, leb-true, leb-false, eqb, leb, length}
+use Rattle.laws.specs.Choice.{pick, allOf, by-test}
 use Rattle.laws.specs.Sums.{sumOf, sumOf-at}
 use Rattle.rules.specs.Answers.{firstOf, insertRefusals, isGoodForDay, mark, listingOf, takerOf, fillableLots}
 use Rattle.rules.specs.Bounds.{inAuction, maxResting}
@@ -20,11 +13,7 @@ use Rattle.rules.specs.Kinds.{lastOf}
 use Rattle.rules.specs.Matching.{Swept, fillable, tradedLots, remainder, restLots, restWhole, restedLots, enter}
 use Rattle.rules.specs.Step.{withTrades, limitOf, enteredOf, listingAfter, exchangeAfter, inserted}
 use Rattle.rules.specs.WellFormed.{allListed, orderInRange, tradeInRange, numberOf, stampOf, usedOnce}
-use Rattle.rules.specs.declared.Account.{Account}
-use Rattle.rules.specs.declared.Contract.{Contract}
-use Rattle.rules.specs.declared.Holding.{Holding}
-use Rattle.rules.specs.declared.NewOrder.{NewOrder}
-use Rattle.rules.specs.declared.Order.{Order}
+use Rattle.rules.specs.declared.{Account.Account, Contract.Contract, Holding.Holding, NewOrder.NewOrder, Order.Order}
 use Rattle.rules.proofs.AuctionSteps.{entered-either, entered-elsewhere, trades-needed}
 use Rattle.rules.proofs.Fillable.{swept-fillable}
 use Rattle.rules.proofs.Holdings.{booked-start-holding}
@@ -89,12 +78,9 @@ own-closes true true lots h r p q = omega (arith, q refl refl)
 unused-all : (number : ℕ) (queue : List Order) → uses numberOf number queue ≡ 0 → allOf (λ r. not (eqb number (r .number))) queue ≡ true
 unfolding uses sumOf allOf
 unused-all number [] h = refl
-unused-all number (r ∷ rs) h = by-number (eqb number (r .number)) refl (unused-all number rs)
-  where
-    by-number : (b : Bool) → eqb number (r .number) ≡ b → (uses numberOf number rs ≡ 0 → allOf (λ r. not (eqb number (r .number))) rs ≡ true) →
-        allOf (λ r. not (eqb number (r .number))) (r ∷ rs) ≡ true
-    by-number true e ih = let h′ : 1 + uses numberOf number rs ≡ 0 = rw e at h in absurd (omega arith)
-    by-number false e ih = let h′ : 0 + uses numberOf number rs ≡ 0 = rw e at h in rw e (ih (omega arith))
+unused-all number (r ∷ rs) h =
+    by-test (eqb number (r .number)) (λ e. let h′ : 1 + uses numberOf number rs ≡ 0 = rw e at h in absurd (omega arith))
+    (λ e. let h′ : 0 + uses numberOf number rs ≡ 0 = rw e at h in rw e (unused-all number rs (omega arith)))
 
 unused-others : (number : ℕ) (sell : Bool) (m : Listing) → usesIn numberOf number m ≡ 0 → allOf (λ r. not (eqb number (r .number))) (opposite sell m) ≡ true
 unfolding usesIn
@@ -112,13 +98,11 @@ own-uses field n true m = omega arith
 own-uses field n false m = refl
 
 one-more : (used : List ℕ) (value : ℕ) → usedOnce used ≡ true → occurs value used ≡ 0 → (n : ℕ) → occurs n used + pick (eqb n value) 1 0 ≤ 1
-one-more used value once unused n = by-value (eqb n value) refl
-  where
-    by-value : (b : Bool) → eqb n value ≡ b → occurs n used + pick (eqb n value) 1 0 ≤ 1
-    by-value true e =
-        let z : occurs n used ≡ 0 = rw (eqb-true n value e) unused in
-        rw e (omega arith)
-    by-value false e = rw e (omega (arith, once-count used once n))
+one-more used value once unused n =
+    by-test (eqb n value)
+    (λ e. let z : occurs n used ≡ 0 = rw (eqb-true n value e) unused in
+    rw e (omega arith))
+    (λ e. rw e (omega (arith, once-count used once n)))
 
 module _ {x : Exchange} {number quote next : ℕ} {o : NewOrder} (entry : Enterable x number quote next o) where
   abbrev pub lots-swept : Swept
@@ -231,10 +215,6 @@ module _ {x : Exchange} {number quote next : ℕ} {o : NewOrder} (entry : Entera
   mine-marks =
       rested-marks (x .accounts) (takerOf x number quote o) (limitOf (o .condition)) (rested entry) mine (entry .marks .allowed) (entry .marks .single) (marks-before (o .sell))
 
-  marks-after : (sell : Bool) → MarksOk (x .accounts) (own sell after)
-  unfolding listingAfter
-  marks-after = rw (own-is entry) (each-side (MarksOk (x .accounts)) (o .sell) _ _ mine-marks others-marks)
-
   -- the values of a field: one more, that of the order entered, if a remainder rests
   module _ (field : Order → ℕ) (kept : KeptByLots field) where
     mine-uses : (n : ℕ) → uses field n mineAfter ≤ pick (eqb n (field arrived)) 1 0 + uses field n mine
@@ -301,7 +281,7 @@ module _ {x : Exchange} {number quote next : ℕ} {o : NewOrder} (entry : Entera
       (λ e. swept-contract (takerOf x number quote o) (o .lots) (contractOf entry .last) others)
 
   trades-ok : TradesOk x place after (lots-swept .trades) next (x .nextstamp + 1)
-  unfolding listingOf listingAt takerOf remainder
+  unfolding listingOf listingAt takerOf remainder listingAfter
   trades-ok =
       record {
         there = entry .passes .contract;
@@ -317,7 +297,7 @@ module _ {x : Exchange} {number quote next : ℕ} {o : NewOrder} (entry : Entera
         here = its-trades;
         never = swept-holdings contractLimit kept-before .never;
         holding = holding-after;
-        marks = marks-after;
+        marks = rw (own-is entry) (each-side (MarksOk (x .accounts)) (o .sell) _ _ mine-marks others-marks);
       }
 
   -- ---- the counts
@@ -339,18 +319,15 @@ module _ {x : Exchange} {number quote next : ℕ} {o : NewOrder} (entry : Entera
 
   -- code 13: with 64 on its own side nothing rests
   none-rests : maxResting ≤ length mine → rested entry ≡ 0
-  none-rests full = by-time-condition (isGoodForDay (o .time)) refl
-    where
-      by-time-condition : (b : Bool) → isGoodForDay (o .time) ≡ b → rested entry ≡ 0
-      by-time-condition true e = let r = entry .passes .room e full in omega (arith, rested-left entry, filled (r .0) (r .1))
-      by-time-condition false e = none-rested e
+  none-rests full =
+      by-test (isGoodForDay (o .time)) (λ e. let r = entry .passes .room e full in omega (arith, rested-left entry, filled (r .0) (r .1)))
+      (λ e. none-rested e)
 
   mine-length : length mine ≤ maxResting → length mineAfter ≤ maxResting
-  mine-length h = by-room (leb maxResting (length mine)) refl
-    where
-      by-room : (b : Bool) → leb maxResting (length mine) ≡ b → length mineAfter ≤ maxResting
-      by-room true e = omega (arith, rested-length (takerOf x number quote o) (limitOf (o .condition)) (rested entry) mine, none-rests (leb-true _ _ e))
-      by-room false e = omega (arith, rested-length-one (takerOf x number quote o) (limitOf (o .condition)) (rested entry) mine, leb-false maxResting (length mine) e)
+  mine-length h =
+      by-test (leb maxResting (length mine))
+      (λ e. omega (arith, rested-length (takerOf x number quote o) (limitOf (o .condition)) (rested entry) mine, none-rests (leb-true _ _ e)))
+      (λ e. omega (arith, rested-length-one (takerOf x number quote o) (limitOf (o .condition)) (rested entry) mine, leb-false maxResting (length mine) e))
 
   others-length : length (lots-swept .rest) ≤ length others
   unfolding restWhole enter

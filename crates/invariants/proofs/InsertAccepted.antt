@@ -1,22 +1,12 @@
 -- What an order that is entered has passed, and the number that it has, as facts with names: an accepted insert. Assumes nothing.
-use mathlib.Core.Bool.{Bool, true, false, not, _&&_, _||_, true≢false, false≢true}
-use mathlib.Core.List.{List}
-use mathlib.Core.Path.{_≡_, refl, sym, _∙_, ap}
-use Prim.Native.Nat.{ℕ, _+_, _<_, _≤_}
-use native.Mathlib.Omega.{arith}
-use borrow.Author.Tests.{leb-true, leb-false, ltb-false, le-leb, not-false}
-use lib.Dec.{leb, ltb}
-use lib.ListN.{length}
+use Rattle.laws.specs.Logic.{Bool, true, false, not, _&&_, _||_, true≢false, false≢true, List, _≡_, refl, sym, ap, _∙_}
+use Rattle.laws.specs.Numbers.{ℕ, _+_, _<_, _≤_, arith, leb-true, leb-false, ltb-false, le-leb, not-false, leb, ltb, length}
 use Rattle.laws.specs.Choice.{pick, pick-true, pick-false, both-true, true-both, either-false}
 use Rattle.rules.specs.Answers.{firstOf, insertRefusals, orderRefusals, isFillOrKill, isGoodForDay, isLimit, listingOf, priceRefusedBy, holdingRefused, lotsRefused, mark, fillableLots, tradesNeeded, tradesRefused, numbersUsedUp, stampsUsedUp, conditionsRefused, dayWithoutLimit}
 use Rattle.rules.specs.Bounds.{within, allowedToday, numbersEnd, maxLots, maxTrades, maxResting, inAuction}
 use Rattle.rules.specs.Exchange.{Exchange, listingAt, placeOf, own, holdingAt, restingOpens, restingCloses}
 use Rattle.rules.specs.WellFormed.{allNumbers, numberOf}
-use Rattle.rules.specs.declared.Contract.{Contract}
-use Rattle.rules.specs.declared.Holding.{Holding}
-use Rattle.rules.specs.declared.NewOrder.{NewOrder}
-use Rattle.rules.specs.declared.Order.{Order}
-use Rattle.rules.specs.declared.PriceCondition.{PriceCondition}
+use Rattle.rules.specs.declared.{Contract.Contract, Holding.Holding, NewOrder.NewOrder, Order.Order, PriceCondition.PriceCondition}
 use Rattle.rules.specs.declared.PriceCondition.the-variants.{Limit}
 use Rattle.rules.proofs.Refusals.{Failed, failed, present}
 use Rattle.invariants.proofs.Clauses.{held, WellFormed}
@@ -88,8 +78,7 @@ not-first false b e h = absurd (true≢false (sym h ∙ e))
 module _ (c : Contract) (o : NewOrder) (e : conditionsRefused c o ≡ false) where
   conditions : (dayWithoutLimit (o .condition) (o .time) ≡ false) × ((inAuction c && not (isLimit (o .condition) && isGoodForDay (o .time))) ≡ false)
   unfolding conditionsRefused
-  conditions =
-      either-false (dayWithoutLimit (o .condition) (o .time)) (inAuction c && not (isLimit (o .condition) && isGoodForDay (o .time))) e
+  conditions = either-false (dayWithoutLimit (o .condition) (o .time)) (inAuction c && not (isLimit (o .condition) && isGoodForDay (o .time))) e
 
   day-limit : isGoodForDay (o .time) ≡ true → isLimit (o .condition) ≡ true
   day-limit = not-first (isLimit (o .condition)) (isGoodForDay (o .time)) (conditions .0)

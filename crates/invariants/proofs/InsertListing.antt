@@ -1,12 +1,6 @@
 -- The contract after an order is entered, by an insert or by a change that loses its place: its last price is a tick multiple and its queues are in order. Assumes nothing.
-use mathlib.Core.Bool.{Bool, true, false, not, true≢false, false≢true}
-use mathlib.Core.List.{List, [], _∷_}
-use mathlib.Core.Path.{_≡_, refl, sym, _∙_}
-use Prim.Native.Nat.{ℕ, _+_, _-_, _<_, _≤_}
-use native.Mathlib.Omega.{arith}
-use borrow.Author.Tests.{lt-ltb}
-use lib.Dec.{ltb}
-use lib.ListN.{length}
+use Rattle.laws.specs.Logic.{Bool, true, false, not, true≢false, false≢true, List, [], _∷_, _≡_, refl, sym, _∙_}
+use Rattle.laws.specs.Numbers.{ℕ, _+_, _-_, _<_, _≤_, arith, lt-ltb, ltb, length}
 use Rattle.laws.specs.Choice.{allOf, allOf-imp}
 use Rattle.laws.specs.Chains.{all-passed, join}
 use Rattle.rules.specs.Answers.{isGoodForDay, isLimit, mark, listingOf, takerOf}
@@ -15,12 +9,8 @@ use Rattle.rules.specs.Exchange.{Exchange, placeOf, own, opposite}
 use Rattle.rules.specs.Matching.{Swept, tradedLots, lastPrice, remainder, restLots, restWhole, restedLots, enter}
 use Rattle.rules.specs.Step.{withLast, limitOf, enteredOf, listingAfter}
 use Rattle.rules.specs.WellFormed.{contractInRange, orderInRange, sorted}
-use Rattle.rules.specs.declared.Contract.{Contract}
-use Rattle.rules.specs.declared.NewOrder.{NewOrder}
-use Rattle.rules.specs.declared.Order.{Order}
-use Rattle.rules.specs.declared.PriceCondition.{PriceCondition}
+use Rattle.rules.specs.declared.{Contract.Contract, NewOrder.NewOrder, Order.Order, PriceCondition.PriceCondition, Trade.Trade}
 use Rattle.rules.specs.declared.PriceCondition.the-variants.{Limit, Market, Best}
-use Rattle.rules.specs.declared.Trade.{Trade}
 use Rattle.rules.proofs.AuctionSteps.{entered-either}
 use Rattle.rules.proofs.Fillable.{traded-nil}
 use Rattle.rules.proofs.Prices.{swept-allowed, last-test, method-rounds}

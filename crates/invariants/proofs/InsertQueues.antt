@@ -1,21 +1,15 @@
 -- The two queues of a contract after an insert: the opposite one is what the sweep leaves, the own one has the remainder at its
 -- place; sorted, uncrossed and in range. Assumes nothing.
-use mathlib.Core.Bool.{Bool, true, false, not, _&&_}
-use mathlib.Core.List.{List, _∷_}
-use mathlib.Core.Path.{_≡_, refl}
-use Prim.Native.Nat.{ℕ, zero, suc, _+_, _<_, _≤_}
-use native.Mathlib.Omega.{arith}
-use lib.Dec.{ltb, eqb}
-use lib.ListN.{length}
+use borrow.Author.Needs.{needs}
+use Rattle.laws.specs.Logic.{Bool, true, false, not, _&&_, List, _∷_, _≡_, refl}
+use Rattle.laws.specs.Numbers.{ℕ, zero, suc, _+_, _<_, _≤_, arith, eqb, ltb, length}
 use Rattle.laws.specs.Choice.{pick, allOf}
 use Rattle.laws.specs.Sums.{sumOf}
 use Rattle.rules.specs.Bounds.{inAuction}
 use Rattle.rules.specs.Exchange.{Listing, own, opposite, withQueues, resting, lotsWhere}
 use Rattle.rules.specs.Matching.{withLots, sweep, remainder, restLots}
 use Rattle.rules.specs.WellFormed.{contractInRange, sorted, orderInRange}
-use Rattle.rules.specs.declared.Contract.{Contract}
-use Rattle.rules.specs.declared.Order.{Order}
-use Rattle.rules.specs.declared.Taker.{Taker}
+use Rattle.rules.specs.declared.{Contract.Contract, Order.Order, Taker.Taker}
 use Rattle.rules.proofs.Queue.{length-restIn}
 use Rattle.rules.proofs.Rest.{uncrossedFrom, rest-all}
 use Rattle.invariants.proofs.Clauses.{order-ok, order-test, ListingOk}
@@ -42,14 +36,10 @@ module _ (accounts next nextstamp : ℕ) where
       record {
         mine-sorted = k .order sell;
         others-sorted = rw other-own at (k .order (not sell));
-        sides-uncrossed = by-side sell;
+        sides-uncrossed = elim sell [ false ↦ k .apart | true ↦ k .apart ];
         mine-orders = k .orders sell;
         others-orders = rw other-own at (k .orders (not sell));
       }
-    where
-      by-side : (b : Bool) → inAuction (m .contract) ≡ false → uncrossedFrom b (own b m) (opposite b m) ≡ true
-      by-side true = k .apart
-      by-side false = k .apart
 
   pub sides-listing : (sell : Bool) (c : Contract) (mine others : List Order) → contractInRange c ≡ true →
       SidesOk accounts next nextstamp c sell mine others → ListingOk accounts next nextstamp (withQueues sell c mine others)
@@ -120,18 +110,7 @@ pub order-fewer : (accounts next nextstamp : ℕ) (c : Contract) (o : Order) (lo
 order-fewer accounts next nextstamp c o lots low high h =
     let k = order-ok accounts next nextstamp c o h in
     order-test accounts next nextstamp c (withLots o lots)
-    (record {
-      lots-low = low;
-      lots-high = omega arith;
-      account = k .account;
-      price = k .price;
-      number-low = k .number-low;
-      number-high = k .number-high;
-      close = k .close;
-      stamp-low = k .stamp-low;
-      stamp-high = k .stamp-high;
-      quote = k .quote;
-    })
+    (search needs depth 12)
 
 pub rest-orders : (accounts next nextstamp : ℕ) (c : Contract) (t : Taker) (left last : ℕ) (os : List Order) →
     allOf (orderInRange accounts next nextstamp c) os ≡ true → allOf (orderInRange accounts next nextstamp c) (sweep t left last os .rest) ≡ true

@@ -1,15 +1,9 @@
 -- Law 12 (rules, specs/AuctionFairness): NO PRICE AT ALL, resting or not, has a larger volume than the chosen one, since the lowest price of a buy
 -- that reaches a price is a resting price, as many buys' lots reach it, and no fewer sells' lots; and the ticket's steps choose it among the
 -- resting ones. Assumes nothing.
-use mathlib.Core.Bool.{Bool, true, false, not}
-use mathlib.Core.List.{List, [], _∷_}
-use mathlib.Core.Logic.{_⊎_, inl, inr, ⊎-elim}
-use mathlib.Core.Path.{_≡_, refl, sym, _∙_}
-use Prim.Native.Nat.{ℕ, _≤_}
-use native.Mathlib.Omega.{arith}
-use borrow.Author.Tests.{eq-eqb, eqb-true, leb-true, leb-false, ltb-true, ltb-false, not-true}
-use lib.Dec.{leb, ltb, eqb}
-use Rattle.laws.specs.Choice.{allOf, allOf-append, both-true, either-true, pick, pick-true, true-either}
+use Rattle.laws.specs.Logic.{Bool, true, false, not, List, [], _∷_, _⊎_, ⊎-elim, inl, inr, _≡_, refl, sym, _∙_}
+use Rattle.laws.specs.Numbers.{ℕ, _≤_, arith, eqb-true, leb-true, leb-false, ltb-true, ltb-false, eq-eqb, not-true, eqb, leb, ltb}
+use Rattle.laws.specs.Choice.{allOf, allOf-append, both-true, either-true, pick, pick-true, true-either, by-test}
 use Rattle.rules.specs.Auction.{apart, better, chosenPrice, lotsReaching, prices, reaches, restingPrices, smaller, surplus, volume}
 use Rattle.rules.specs.AuctionFairness.{LargestVolume, oneOf}
 use Rattle.rules.specs.declared.Order.{Order}
@@ -25,11 +19,9 @@ reaches-behind false price o e = leb-true price (o .price) e
 
 -- one more order takes nothing away
 reaching-tail : (sell : Bool) (price : ℕ) (o : Order) (os : List Order) → lotsReaching sell price os ≤ lotsReaching sell price (o ∷ os)
-reaching-tail sell price o os = by-reach (reaches sell price o) refl
-  where
-    by-reach : (met : Bool) → reaches sell price o ≡ met → lotsReaching sell price os ≤ lotsReaching sell price (o ∷ os)
-    by-reach true e = omega (arith, reaching-met sell price o os e)
-    by-reach false e = omega (arith, reaching-unmet sell price o os e)
+reaching-tail sell price o os =
+    by-test (reaches sell price o) (λ e. omega (arith, reaching-met sell price o os e))
+    (λ e. omega (arith, reaching-unmet sell price o os e))
 
 reaching-more : (sell : Bool) (price other : ℕ) (os : List Order) → Behind sell other price → lotsReaching sell price os ≤ lotsReaching sell other os
 reaching-more sell price other [] b = omega (arith, reaching-nil sell price)

@@ -1,21 +1,13 @@
 -- What a leg, and a trade between two orders, does to what each account holds beside its resting orders: an open lot moves from
 -- resting to held, a close takes a lot that was held for it. Assumes nothing.
-use mathlib.Core.Bool.{Bool, true, false, not, _&&_}
-use mathlib.Core.List.{List, [], _∷_}
-use mathlib.Core.Path.{_≡_, refl, sym}
-use Prim.Native.Nat.{ℕ, zero, suc, _+_, _-_, _<_, _≤_}
-use native.Mathlib.Omega.{arith}
-use borrow.Author.Tests.{leb-true, eqb-true, eqb-false, eq-eqb}
-use lib.Dec.{leb, eqb}
-use lib.ListN.{getD, set}
-use Rattle.laws.specs.Choice.{pick}
+use Rattle.laws.specs.Logic.{Bool, true, false, not, _&&_, List, [], _∷_, _≡_, refl, sym}
+use Rattle.laws.specs.Numbers.{ℕ, zero, suc, _+_, _-_, _<_, _≤_, arith, eqb-true, eqb-false, leb-true, eq-eqb, eqb, leb, getD, set}
+use Rattle.laws.specs.Choice.{pick, by-test}
 use Rattle.laws.specs.Sums.{sumOf}
 use Rattle.rules.specs.Exchange.{accountAt, holdingAt, noAccount, noHolding, lotsWhere, resting, restingOpens, restingCloses}
 use Rattle.rules.specs.Holdings.{afterLeg, withHolding, bookLeg, legCovered}
 use Rattle.rules.specs.Matching.{withLots}
-use Rattle.rules.specs.declared.Account.{Account}
-use Rattle.rules.specs.declared.Holding.{Holding}
-use Rattle.rules.specs.declared.Order.{Order}
+use Rattle.rules.specs.declared.{Account.Account, Holding.Holding, Order.Order}
 use Rattle.rules.proofs.Holdings.{holding-other-account, close-covered, open-covered}
 use Rattle.invariants.proofs.Clauses.{held}
 
@@ -94,12 +86,9 @@ nothing-booked sell h = record { rise = omega arith; kept = omega arith; fall = 
 
 pub booked-bounds : (l : List Account) (u c : ℕ) (sell : Bool) (close lots : ℕ) → close ≤ 1 → legCovered l u c sell close lots ≡ true → (a : ℕ) →
     LegBounds sell (opensFor a u close lots) (closesFor a u close lots) (holdingAt l a c) (holdingAt (bookLeg l u c sell close lots) a c)
-booked-bounds l u c sell close lots m k a = by-account (eqb u a) refl
-  where
-    by-account : (b : Bool) → eqb u a ≡ b →
-        LegBounds sell (opensFor a u close lots) (closesFor a u close lots) (holdingAt l a c) (holdingAt (bookLeg l u c sell close lots) a c)
-    by-account true e = rw (e, ← eqb-true u a e) (booked-here l u c sell close lots m k)
-    by-account false e = rw (e, holding-other-account l u c sell close lots a c (λ q. eqb-false u a e (sym q))) (nothing-booked sell (holdingAt l a c))
+booked-bounds l u c sell close lots m k a =
+    by-test (eqb u a) (λ e. rw (e, ← eqb-true u a e) (booked-here l u c sell close lots m k))
+    (λ e. rw (e, holding-other-account l u c sell close lots a c (λ q. eqb-false u a e (sym q))) (nothing-booked sell (holdingAt l a c)))
 
 -- a leg is covered where the account holds what it closes
 pub covered-by : (l : List Account) (u c : ℕ) (sell : Bool) (close lots : ℕ) → close ≤ 1 →
@@ -168,10 +157,6 @@ module _ (accounts : ℕ) (limit : ℕ → ℕ) (c : ℕ) (l : List Account) (b 
   abbrev sold : List Account
   sold = bookLeg bought (s .account) c true (s .close) k
 
-  seller-bounds : (a : ℕ) →
-      LegBounds true (opensFor a (s .account) (s .close) k) (closesFor a (s .account) (s .close) k) (holdingAt bought a c) (holdingAt sold a c)
-  seller-bounds = booked-bounds bought (s .account) c true (s .close) k sell-mark seller-covered
-
   -- what is left of an order counts for what is left of its lots
   rest-of : (close a : ℕ) (o : Order) (os : List Order) → k ≤ o .lots →
       resting close a (withLots o (o .lots - k) ∷ os) + pick (eqb (o .account) a && eqb (o .close) close) k 0 ≡ resting close a (o ∷ os)
@@ -188,7 +173,7 @@ module _ (accounts : ℕ) (limit : ℕ → ℕ) (c : ℕ) (l : List Account) (b 
   trade-kept a h =
       let p = kept a h in
       let f = buyer-bounds a in
-      let g = seller-bounds a in
+      let g = (booked-bounds bought (s .account) c true (s .close) k sell-mark seller-covered) a in
       record {
         buy-opens = omega (arith, rest-of 0 a b buys buy-lots);
         sell-opens = omega (arith, rest-of 0 a s sells sell-lots);

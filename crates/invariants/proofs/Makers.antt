@@ -1,9 +1,8 @@
 -- Maker marks stay under what moves money or trades: a payment, a settlement, a change, a quote. That no command changes one is
 -- `makers-stay` (`EachKind`). Assumes nothing.
-use mathlib.Core.Path.{_≡_, refl, ap, _∙_}
-use Prim.Native.Nat.{ℕ, _<_}
 use lib.IntN.{ℤ}
-use lib.ListN.{length}
+use Rattle.laws.specs.Logic.{_≡_, refl, ap, _∙_}
+use Rattle.laws.specs.Numbers.{ℕ, _<_, length}
 use Rattle.laws.specs.Lists.{kept-at}
 use Rattle.laws.specs.Tabulate.{getD-tabulate}
 use Rattle.rules.specs.Change.{Asked, changed, gone, placeKept, placeLost, reentered, unchanged}

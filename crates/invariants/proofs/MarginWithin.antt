@@ -1,18 +1,11 @@
 -- ALL CHARGED MARGIN IS WITHIN THE BALANCE after an accepted open and after an accepted withdrawal; and no command but a settlement brings
 -- an account out of it. What is charged after an open is at most what it was tested with (Charged.antt); what others do raises nobody's
 -- charge. Assumes nothing.
-use mathlib.Core.Bool.{Bool, true, false, not, _&&_, false≢true, true≢false}
-use mathlib.Core.List.{[], _∷_}
-use mathlib.Core.Logic.{_≢_}
-use mathlib.Core.Path.{_≡_, refl, sym, ap, ap₂, subst, _∙_}
-use Prim.Native.Nat.{ℕ, zero, suc, _+_, _*_, _<_, _≤_}
-use native.Mathlib.Omega.{arith}
-use borrow.Author.Tests.{eq-eqb, eqb-true, eqb-false, leb-true, le-leb, not-true}
-use lib.Dec.{eqb}
 use lib.IntN.{ℤ, pos, negsuc, _+ℤ_, _-ℤ_}
-use lib.ListN.{length, getD}
 use lib.Signed.{leZ}
-use Rattle.laws.specs.Choice.{allOf}
+use Rattle.laws.specs.Logic.{Bool, true, false, not, _&&_, true≢false, false≢true, [], _∷_, _≢_, _≡_, refl, sym, ap, ap₂, subst, _∙_}
+use Rattle.laws.specs.Numbers.{ℕ, zero, suc, _+_, _*_, _<_, _≤_, arith, eqb-true, eqb-false, leb-true, eq-eqb, le-leb, not-true, eqb, length, getD}
+use Rattle.laws.specs.Choice.{allOf, by-test}
 use Rattle.laws.specs.Lists.{at-set, kept-at}
 use Rattle.laws.specs.Ring.{leZ-ltZ}
 use Rattle.rules.specs.Answers.{_when_, firstOf, phaseRefusals, depositRefusals, insertRefusals, leavesTooLittle, mark, moneyRefused, orderRefusals, withdrawRefusals}
@@ -25,9 +18,7 @@ use Rattle.rules.specs.Kinds.{lastOf}
 use Rattle.rules.specs.Margin.{charge, charged, chargedLots, chargedTo, includedTo}
 use Rattle.rules.specs.Quote.{Offered, buyOf, half, quoted, quoteRefusals, sellOf, withBuy, withSell, withoutQuote}
 use Rattle.rules.specs.Step.{cancelled, deposited, enteredOf, exchangeAfter, exchangeMatched, hasNumber, inserted, listingMatched, listingWithout, paid, phaseChanged, removed, withListing, withdrawn}
-use Rattle.rules.specs.declared.Account.{Account}
-use Rattle.rules.specs.declared.NewOrder.{NewOrder}
-use Rattle.rules.specs.declared.Order.{Order}
+use Rattle.rules.specs.declared.{Account.Account, NewOrder.NewOrder, Order.Order}
 use Rattle.rules.proofs.Changes.{changed-either}
 use Rattle.rules.proofs.Holdings.{booked-balance}
 use Rattle.rules.proofs.LotsIncluded.{open-passes}
@@ -85,8 +76,7 @@ module _ (x : Exchange) (u : ℕ) (balance : ℤ) where
     -- the new balance is enough
     paid-within : leZ (pos (charged x u)) balance ≡ true → WithinBalance (paid x u balance) u
     unfolding paid
-    paid-within h =
-        rw (paid-charged u (length (x .listings))) (paid-balance (λ a b. leZ (pos (charged x u)) b ≡ true) h u (λ n. absurd (n refl)))
+    paid-within h = rw (paid-charged u (length (x .listings))) (paid-balance (λ a b. leZ (pos (charged x u)) b ≡ true) h u (λ n. absurd (n refl)))
 
     -- .. where the old one was
     paid-keeps : (WithinBalance x u → leZ (pos (charged x u)) balance ≡ true) → (a : ℕ) → Keeps x (paid x u balance) a
@@ -180,14 +170,12 @@ module _ {x : Exchange} {number quote next : ℕ} {o : NewOrder} (entry : Entera
       (tested e))
 
   pub entered-within : (a : ℕ) → a < length (x .accounts) → Keeps x left a
-  entered-within a l = by-own (eqb account a && eqb (mark (o .close)) 0) refl
-    where
-      by-own : (b : Bool) → (eqb account a && eqb (mark (o .close)) 0) ≡ b → Keeps x left a
-      by-own true e = λ w. let q = own-open (eqb account a) (o .close) e in subst (WithinBalance left) (eqb-true account a (q .0)) (open-within (q .1))
-      by-own false e =
-          keeps-both x left a
-          (rw (← none-included x a place (o .sell) (length (x .listings))) (rw e at (entered-charged entry a l)))
-          (same-balance a)
+  entered-within a l =
+      by-test (eqb account a && eqb (mark (o .close)) 0)
+      (λ e. λ w. let q = own-open (eqb account a) (o .close) e in subst (WithinBalance left) (eqb-true account a (q .0)) (open-within (q .1)))
+      (λ e. keeps-both x left a
+      (rw (← none-included x a place (o .sell) (length (x .listings))) (rw e at (entered-charged entry a l)))
+      (same-balance a))
 
 pub insert-within : (x : Exchange) → WellFormed x → Shaped x → (o : NewOrder) → firstOf (insertRefusals x o) ≡ 0 →
     (o .close ≡ false → WithinBalance (lastOf x (inserted x o .stages)) (placeOf (o .account)))
@@ -264,10 +252,6 @@ module _ (x : Exchange) (k : WellFormed x) (shaped : Shaped x) (q : Offered) (e 
   abbrev codes : Failed (orderRefusals empty (buyOf q)) × Failed (orderRefusals buys (sellOf q))
   codes = quote.codes x k q e
 
-  empty-keeps : (a : ℕ) → Keeps x empty a
-  unfolding withoutQuote
-  empty-keeps a = without-keeps x (placeOf (q .contract)) listed a _
-
   buy-keeps : (a : ℕ) → a < length (empty .accounts) → Keeps empty buys a
   unfolding withBuy
   buy-keeps = entered-within (quote.buy-enters x k q here listed maker (codes .0)) empty-shaped (paid-for empty (buyOf q) (codes .0))
@@ -280,11 +264,11 @@ module _ (x : Exchange) (k : WellFormed x) (shaped : Shaped x) (q : Offered) (e 
       (entered-within entry buys-shaped money, open-within entry buys-shaped money refl)
 
   pub quote-within : WithinBalance (lastOf x (quoted x q .stages)) (placeOf (q .account)) × ((a : ℕ) → a < length (x .accounts) → Keeps x (lastOf x (quoted x q .stages)) a)
-  unfolding quoted
+  unfolding quoted withoutQuote
   quote-within = (
     sell-keeps .1,
     λ a l w. sell-keeps .0 a (rw (quote.buy-accounts x k q here listed maker (codes .0)) l)
-        (buy-keeps a (rw (quote.gone-accounts x k q here listed) l) (empty-keeps a w)),
+        (buy-keeps a (rw (quote.gone-accounts x k q here listed) l) (without-keeps x (placeOf (q .contract)) listed a _ w)),
   )
 
 -- ---- a change of a resting order

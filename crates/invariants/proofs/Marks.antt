@@ -1,14 +1,7 @@
 -- Quote marks carried from a queue to what is left of it, and from the accounts to the accounts after a step: nothing but a quote adds a
 -- mark, and nothing changes who is a maker. Assumes nothing.
-use mathlib.Core.Bool.{Bool, true, false, _&&_, _||_}
-use mathlib.Core.List.{List, []}
-use mathlib.Core.Path.{_≡_, refl}
-use Prim.Native.Nat.{ℕ, _+_, _<_, _≤_}
-use native.Mathlib.Nat.{le-refl}
-use native.Mathlib.Omega.{arith}
-use borrow.Author.Tests.{eqb-true}
-use lib.Dec.{eqb}
-use lib.ListN.{length}
+use Rattle.laws.specs.Logic.{Bool, true, false, _&&_, _||_, List, [], _≡_, refl}
+use Rattle.laws.specs.Numbers.{ℕ, _+_, _<_, _≤_, le-refl, arith, eqb-true, eqb, length}
 use Rattle.laws.specs.Choice.{pick, allOf, allOf-imp}
 use Rattle.laws.specs.Sums.{sumOf}
 use Rattle.rules.specs.Answers.{listingOf, mark}
@@ -16,10 +9,7 @@ use Rattle.rules.specs.Change.{unmarked}
 use Rattle.rules.specs.Exchange.{Exchange, accountAt, own, placeOf}
 use Rattle.rules.specs.Matching.{sweep, remainder, restLots}
 use Rattle.rules.specs.WellFormed.{isQuoteOf, markAllowed, quotes}
-use Rattle.rules.specs.declared.Account.{Account}
-use Rattle.rules.specs.declared.NewOrder.{NewOrder}
-use Rattle.rules.specs.declared.Order.{Order}
-use Rattle.rules.specs.declared.Taker.{Taker}
+use Rattle.rules.specs.declared.{Account.Account, NewOrder.NewOrder, Order.Order, Taker.Taker}
 use Rattle.rules.proofs.AuctionTaken.{KeptWithFewer, LessWithFewer}
 use Rattle.rules.proofs.Rest.{rest-all, rest-sum}
 use Rattle.invariants.proofs.Clauses.{MarksOk, WellFormed}

@@ -1,22 +1,13 @@
 -- The match of an auction keeps every account's limits and the coverage of its closes: both orders of a trade rested, so either leg
 -- takes what was counted for it. Assumes nothing.
-use mathlib.Core.Bool.{Bool, true, false}
-use mathlib.Core.List.{List, [], _∷_}
-use mathlib.Core.Path.{_≡_, refl}
-use Prim.Native.Nat.{ℕ, _-_}
-use native.Mathlib.Omega.{arith}
-use borrow.Author.Tests.{ltb-true, ltb-false}
-use lib.Dec.{ltb}
-use Rattle.laws.specs.Choice.{allOf, both-true}
-use Rattle.laws.specs.Chains.{join}
+use Rattle.laws.specs.Logic.{Bool, true, false, List, _∷_, _≡_}
+use Rattle.laws.specs.Numbers.{ℕ, _-_, arith, ltb-true, ltb-false, ltb}
+use Rattle.laws.specs.Choice.{allOf, both-true, by-test}
 use Rattle.rules.specs.Auction.{Matched, lessFirst, matchAt, paired, tradeAt, unmatched, afterMatch}
 use Rattle.rules.specs.Holdings.{bookBuyer, bookTrade, bookTrades, legCovered, neverBelowZero}
 use Rattle.rules.specs.Matching.{withLots}
 use Rattle.rules.specs.WellFormed.{orderInRange}
-use Rattle.rules.specs.declared.Account.{Account}
-use Rattle.rules.specs.declared.Contract.{Contract}
-use Rattle.rules.specs.declared.Order.{Order}
-use Rattle.rules.specs.declared.Trade.{Trade}
+use Rattle.rules.specs.declared.{Account.Account, Contract.Contract, Order.Order, Trade.Trade}
 use Rattle.rules.proofs.AuctionTaken.{less-kept}
 use Rattle.rules.proofs.AuctionTurns.{less-filled, less-part, match-ind}
 use Rattle.rules.proofs.Holdings.{never-nil}
@@ -36,11 +27,9 @@ unmatched-kept accounts limit c l bs ss k = record { never = never-nil l; kept =
 
 -- what stays of an order counts for no more than its lots left
 less-fewer : (n : ℕ) (o : Order) (os : List Order) → Fewer (lessFirst n o os) (withLots o (o .lots - n) ∷ os)
-less-fewer n o os = cases (ltb n (o .lots)) refl
-  where
-    cases : (short : Bool) → ltb n (o .lots) ≡ short → Fewer (lessFirst n o os) (withLots o (o .lots - n) ∷ os)
-    cases true e = rw (less-part n o os (ltb-true n (o .lots) e)) (λ close a. omega arith)
-    cases false e = rw (less-filled n o os (ltb-false n (o .lots) e)) (fewer-none (withLots o (o .lots - n)) os)
+less-fewer n o os =
+    by-test (ltb n (o .lots)) (λ e. rw (less-part n o os (ltb-true n (o .lots) e)) (λ close a. omega arith))
+    (λ e. rw (less-filled n o os (ltb-false n (o .lots) e)) (fewer-none (withLots o (o .lots - n)) os))
 
 module _ (accounts : ℕ) (limit : ℕ → ℕ) (next nextstamp : ℕ) (contract : Contract) (c price : ℕ) where
   abbrev test : Order → Bool
@@ -78,14 +67,7 @@ module _ (accounts : ℕ) (limit : ℕ → ℕ) (next nextstamp : ℕ) (contract
 
     turn : (m : Matched) → MatchKept accounts limit c (bookTrade l trade) m → MatchKept accounts limit c l (afterMatch trade m)
     unfolding neverBelowZero bookTrades tradeAt
-    turn m i =
-        record {
-          never =
-              join (legCovered l (b .account) c false (b .close) lots)
-              (legCovered (bookBuyer l trade) (s .account) c true (s .close) lots ∷ neverBelowZero (bookTrade l trade) (m .trades) ∷ [])
-              (buy-leg, (sell-leg, i .never));
-          kept = i .kept;
-        }
+    turn m i = search (buy-leg, sell-leg) depth 12
 
   pub match-kept : (bs ss : List Order) (l : List Account) → allOf test bs ≡ true → allOf test ss ≡ true → Kept accounts limit c l bs ss →
       MatchKept accounts limit c l (matchAt c price bs ss)

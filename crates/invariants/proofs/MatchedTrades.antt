@@ -1,13 +1,8 @@
 -- The trades of an auction's match are in range: accounts and contract exist, the two order numbers differ since each is used once,
 -- the price is allowed today since it is a resting one, the lots are 1 to 1,000. Assumes nothing.
-use mathlib.Core.Bool.{Bool, true, not, _&&_}
-use mathlib.Core.List.{List, [], _∷_}
-use mathlib.Core.Path.{_≡_, refl, ap}
-use Prim.Native.Nat.{ℕ, _+_, _<_, _≤_}
-use native.Mathlib.Omega.{arith}
-use borrow.Author.Tests.{eq-eqb, le-leb, leb-true, ne-eqb}
-use lib.Dec.{leb, eqb}
-use lib.ListN.{length}
+use borrow.Author.Needs.{needs}
+use Rattle.laws.specs.Logic.{Bool, true, not, _&&_, List, [], _∷_, _≡_, refl, ap}
+use Rattle.laws.specs.Numbers.{ℕ, _+_, _<_, _≤_, arith, leb-true, eq-eqb, ne-eqb, le-leb, eqb, leb, length}
 use Rattle.laws.specs.Choice.{allOf, allOf-imp, both-true, true-both}
 use Rattle.laws.specs.Sums.{sumOf}
 use Rattle.rules.specs.Auction.{matchAt, tradeAt}
@@ -15,8 +10,7 @@ use Rattle.rules.specs.Bounds.{allowedToday}
 use Rattle.rules.specs.Exchange.{Exchange, listingAt}
 use Rattle.rules.specs.Matching.{withLots}
 use Rattle.rules.specs.WellFormed.{orderInRange, tradeInRange, numberOf}
-use Rattle.rules.specs.declared.Contract.{Contract}
-use Rattle.rules.specs.declared.Order.{Order}
+use Rattle.rules.specs.declared.{Contract.Contract, Order.Order}
 use Rattle.rules.proofs.AuctionTaken.{KeptWithFewer}
 use Rattle.rules.proofs.AuctionTrades.{match-each}
 use Rattle.invariants.proofs.Clauses.{order-ok, trade-test}
@@ -77,21 +71,7 @@ module _ (y : Exchange) (contract : Contract) (next nextstamp c price : ℕ) (bu
       let i = order-ok (length (y .accounts)) next nextstamp contract b (p .0) in
       let j = order-ok (length (y .accounts)) next nextstamp contract s (q .0) in
       trade-test y (tradeAt c price lots b s)
-      (record {
-        contract = there;
-        buyer = i .account;
-        seller = j .account;
-        two = two-numbers b s (p .1) (q .1);
-        buy-low = i .number-low;
-        buy-high = omega arith;
-        sell-low = j .number-low;
-        sell-high = omega arith;
-        price = allowed;
-        lots-low = some (i .lots-low) (j .lots-low);
-        lots-high = omega arith;
-        buyclose = i .close;
-        sellclose = j .close;
-      })
+      (search (needs, two-numbers) depth 12)
 
   with-used : (queue os : List Order) → allOf inRange os ≡ true → allOf (usedIn queue) os ≡ true → allOf (test queue) os ≡ true
   unfolding allOf

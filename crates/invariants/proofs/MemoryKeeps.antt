@@ -1,9 +1,6 @@
 -- EVERY COMMAND KEEPS A WELL-FORMED MEMORY WELL FORMED, and leaves in it just what the rules say. Assumes nothing.
-use mathlib.Core.Bool.{Bool, true, false}
-use mathlib.Core.List.{List, [], _∷_}
-use mathlib.Core.Path.{_≡_, refl, _∙_}
-use Prim.Native.Nat.{ℕ, _<_, _≤_}
-use lib.ListN.{length, getD}
+use Rattle.laws.specs.Logic.{Bool, true, false, List, [], _∷_, _≡_, refl, _∙_}
+use Rattle.laws.specs.Numbers.{ℕ, _<_, _≤_, length, getD}
 use Rattle.laws.specs.Tabulate.{length-tabulate, getD-tabulate}
 use Rattle.rules.specs.Bounds.{maxResting}
 use Rattle.rules.specs.Condition3.{run}

@@ -1,21 +1,13 @@
 -- A state written into memory is read back as it was written; what is read and written back changes nothing; so every step of
 -- the rules is a step on memory, and keeps it well formed. Assumes nothing.
-use mathlib.Core.Bool.{Bool, true, false}
-use mathlib.Core.List.{List, [], _∷_, _++_, map, append-nil}
-use mathlib.Core.Path.{_≡_, refl, sym, ap, ap₂, _∙_}
-use Prim.Native.Nat.{ℕ, zero, suc, _<_, _≤_, min}
-use native.Mathlib.Nat.{le-of-suc-le-suc, not-suc-le-zero, le-refl}
-use native.Mathlib.Omega.{arith}
-use borrow.Author.Tests.{leb-true, leb-false}
-use lib.Dec.{leb}
-use lib.ListN.{length, getD, take, drop, length-take, length-map, drop-of-length-le, List·getD-append, List·getD-map}
-use lib.Seq.{take-at, take-all}
+use Rattle.laws.specs.Logic.{Bool, true, false, List, [], _∷_, _++_, map, append-nil, _≡_, refl, sym, ap, ap₂, _∙_}
+use Rattle.laws.specs.Numbers.{ℕ, zero, suc, _<_, _≤_, min, le-refl, le-of-suc-le-suc, not-suc-le-zero, arith, leb-true, leb-false, leb, length, getD, take}
+use Rattle.laws.specs.Numbers.{drop, length-map, length-take, drop-of-length-le, List·getD-map, List·getD-append, take-all, take-at}
 use Rattle.laws.specs.Tabulate.{tabulate, length-tabulate, tabulate-eq}
 use Rattle.rules.specs.Bounds.{maxResting}
 use Rattle.rules.specs.Exchange.{Exchange, Listing, listingAt, accountAt, own, noListing, noAccount, noContract}
 use Rattle.rules.specs.Memory.{Memory, Declared, queueIn, recordedTrades, listingIn, inUse, exchangeOf, putQueues, putTrades, putFirst, putAccounts, putState, put}
-use Rattle.rules.specs.declared.Account.{Account}
-use Rattle.rules.specs.declared.Holding.{Holding}
+use Rattle.rules.specs.declared.{Account.Account, Holding.Holding}
 use Rattle.rules.proofs.Codecs.{length-queue, putQueues-same, length-putQueues, queue-putQueues, length-trades, put-trades, trades-put, length-putTrades}
 use Rattle.rules.proofs.InUse.{listing-in-use}
 use Rattle.accounting.proofs.StepShape.{SameShape}

@@ -1,12 +1,7 @@
 -- The counts and the room of a state in memory as facts with names, and the two ways between them and the tests of
 -- `Memory.antt`. Assumes nothing.
-use mathlib.Core.Bool.{Bool, true}
-use mathlib.Core.List.{List, [], _∷_}
-use mathlib.Core.Path.{_≡_}
-use Prim.Native.Nat.{ℕ, _*_, _<_, _≤_}
-use borrow.Author.Tests.{leb-true, le-leb}
-use lib.Dec.{leb}
-use lib.ListN.{length, getD}
+use Rattle.laws.specs.Logic.{Bool, true, List, [], _∷_, _≡_}
+use Rattle.laws.specs.Numbers.{ℕ, _*_, _<_, _≤_, leb-true, le-leb, leb, length, getD}
 use Rattle.laws.specs.Choice.{all, all-at, all-true, both-true, true-both}
 use Rattle.laws.specs.Chains.{all-passed, join}
 use Rattle.rules.specs.Bounds.{within, maxContracts, maxAccounts, maxResting, maxTrades}

@@ -1,21 +1,14 @@
 -- "Used once over all queues", by counting, for any field of an order: a value is used once if it occurs at most once, and a change
 -- of one contract's queues changes the counts there alone. Assumes nothing.
-use mathlib.Core.Bool.{Bool, true, false, not}
-use mathlib.Core.List.{List, [], _∷_, _++_}
-use mathlib.Core.Path.{_≡_, refl, _∙_}
-use Prim.Native.Nat.{ℕ, _+_, _<_, _≤_}
-use native.Mathlib.Omega.{arith}
-use borrow.Author.Tests.{eqb-true, eq-eqb, ne-eqb, lt-ltb, ltb-true, not-true}
-use lib.Dec.{eqb, ltb}
-use lib.ListN.{length, getD, set}
+use Rattle.laws.specs.Logic.{Bool, true, false, not, List, [], _∷_, _++_, _≡_, refl, _∙_}
+use Rattle.laws.specs.Numbers.{ℕ, _+_, _<_, _≤_, arith, eqb-true, ltb-true, eq-eqb, ne-eqb, lt-ltb, not-true, eqb, ltb, length, getD, set}
 use Rattle.laws.specs.Choice.{pick, allOf, allOf-imp, both-true, true-both}
 use Rattle.laws.specs.Sums.{sumOf, sumOf-append, sumOf-set, sumOf-bound}
 use Rattle.rules.specs.Change.{unmarked}
 use Rattle.rules.specs.Exchange.{Listing, noListing, own}
 use Rattle.rules.specs.Matching.{withLots}
 use Rattle.rules.specs.WellFormed.{orderInRange, listed, allListed, usedOnce}
-use Rattle.rules.specs.declared.Contract.{Contract}
-use Rattle.rules.specs.declared.Order.{Order}
+use Rattle.rules.specs.declared.{Contract.Contract, Order.Order}
 use Rattle.invariants.proofs.Clauses.{OrderOk, order-ok, ListingOk}
 
 -- how often a number occurs in a list, and as a field's value in a queue and in a contract's two queues

@@ -1,16 +1,11 @@
 -- A step that replaces one contract's listing and nothing else: cancel, pull, fewer lots of an order. Assumes nothing.
-use mathlib.Core.Bool.{Bool}
-use mathlib.Core.Path.{_≡_, refl, sym}
-use Prim.Native.Nat.{ℕ, _<_, _≤_}
-use native.Mathlib.Nat.{le-refl}
-use native.Mathlib.Omega.{arith}
-use lib.ListN.{length, set, length-set}
+use Rattle.laws.specs.Logic.{Bool, _≡_, refl, sym}
+use Rattle.laws.specs.Numbers.{ℕ, _<_, _≤_, le-refl, arith, length, set, length-set}
 use Rattle.laws.specs.Lists.{at-set}
 use Rattle.rules.specs.Bounds.{maxResting}
 use Rattle.rules.specs.Exchange.{Exchange, Listing, listingAt, holdingAt, noListing, own}
 use Rattle.rules.specs.Step.{withListing}
-use Rattle.rules.specs.declared.Holding.{Holding}
-use Rattle.rules.specs.declared.Order.{Order}
+use Rattle.rules.specs.declared.{Holding.Holding, Order.Order}
 use Rattle.invariants.proofs.Carry.{Allows, trades-carried}
 use Rattle.invariants.proofs.Clauses.{ListingOk, HoldingOk, MarksOk, WellFormed, Counted}
 use Rattle.invariants.proofs.Numbers.{KeptByLots, usesIn, once-count, once-changed}

@@ -1,14 +1,7 @@
 -- The order with a number in a contract's queues, where numbers are used once: it is found by its number, and nothing but it goes with it.
 -- Assumes nothing.
-use mathlib.Core.Bool.{Bool, true, false, not, _&&_, true≢false, false≢true}
-use mathlib.Core.List.{List, [], _∷_, _++_}
-use mathlib.Core.Logic.{_⊎_, inl, inr, ⊎-elim}
-use mathlib.Core.Path.{_≡_, refl, sym, ap, _∙_}
-use Prim.Native.Nat.{ℕ, zero, suc, _+_, _≤_}
-use native.Mathlib.Omega.{arith}
-use borrow.Author.Tests.{eqb-true, eqb-false, eq-eqb, ne-eqb, not-true, not-false}
-use lib.Dec.{eqb}
-use lib.ListN.{getD}
+use Rattle.laws.specs.Logic.{Bool, true, false, not, _&&_, true≢false, false≢true, List, [], _∷_, _++_, _⊎_, ⊎-elim, inl, inr, _≡_, refl, sym, ap, _∙_}
+use Rattle.laws.specs.Numbers.{ℕ, zero, suc, _+_, _≤_, arith, eqb-true, eqb-false, eq-eqb, ne-eqb, not-true, not-false, eqb, getD}
 use Rattle.laws.specs.Choice.{pick, allOf, allOf-append, allOf-imp, both-true, true-both}
 use Rattle.laws.specs.Sums.{sumOf, sumOf-append}
 use Rattle.rules.specs.Answers.{noSuchOrder, numbered, ofAnother, restingOrder}
@@ -30,26 +23,19 @@ at-most n (l ∷ ls) (suc c) = omega (arith, at-most n ls c)
 -- in a well-formed state a contract's two queues have a number once at most
 pub once-in : (x : Exchange) → WellFormed x → (c n : ℕ) → uses numberOf n (listingAt x c .buys) + uses numberOf n (listingAt x c .sells) ≤ 1
 unfolding usesIn listingAt
-once-in x k c n =
-    omega (arith, at-most n (x .listings) c, all-uses numberOf n (x .listings), once-count (allNumbers (x .listings)) (k .once) n)
+once-in x k c n = omega (arith, at-most n (x .listings) c, all-uses numberOf n (x .listings), once-count (allNumbers (x .listings)) (k .once) n)
 
 module _ (n : ℕ) where
   abbrev lacks : Order → Bool
   lacks o = not (hasNumber n o)
 
-  flip-true : (o : Order) → hasNumber n o ≡ true → eqb n (o .number) ≡ true
-  flip-true o e = eq-eqb n (o .number) (sym (eqb-true (o .number) n e))
-
-  flip-false : (o : Order) → hasNumber n o ≡ false → eqb n (o .number) ≡ false
-  flip-false o e = ne-eqb n (o .number) (λ f. eqb-false (o .number) n e (sym f))
-
   pub uses-met : (o : Order) (os : List Order) → hasNumber n o ≡ true → uses numberOf n (o ∷ os) ≡ 1 + uses numberOf n os
   unfolding uses sumOf
-  uses-met o os e = rw (flip-true o e) refl
+  uses-met o os e = rw (eq-eqb n (o .number) (sym (eqb-true (o .number) n e))) refl
 
   pub uses-unmet : (o : Order) (os : List Order) → hasNumber n o ≡ false → uses numberOf n (o ∷ os) ≡ uses numberOf n os
   unfolding uses sumOf
-  uses-unmet o os e = rw (flip-false o e) (omega arith)
+  uses-unmet o os e = rw (ne-eqb n (o .number) (λ f. eqb-false (o .number) n e (sym f))) (omega arith)
 
   pub none-has : (q : List Order) → uses numberOf n q ≡ 0 → allOf lacks q ≡ true
   unfolding allOf

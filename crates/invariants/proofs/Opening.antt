@@ -1,13 +1,7 @@
 -- The state in which a sound day file opens is well formed, so that no command of the file can meet code 21. Assumes nothing.
-use mathlib.Core.Bool.{Bool, true, false}
-use mathlib.Core.List.{List, [], _∷_, map}
-use mathlib.Core.Path.{_≡_, refl, ap}
-use Prim.Native.Nat.{ℕ, zero, suc, _<_, _≤_}
-use native.Mathlib.Omega.{arith}
-use borrow.Author.Tests.{leb-true, le-leb}
-use lib.Dec.{leb, eqb}
 use lib.IntN.{pos}
-use lib.ListN.{length, getD, replicate}
+use Rattle.laws.specs.Logic.{Bool, true, false, List, [], _∷_, map, _≡_, refl, ap}
+use Rattle.laws.specs.Numbers.{ℕ, zero, suc, _<_, _≤_, arith, leb-true, le-leb, eqb, leb, length, replicate}
 use Rattle.laws.specs.Choice.{pick, all, all-at, both-true}
 use Rattle.laws.specs.Chains.{all-passed, join}
 use Rattle.laws.specs.Lists.{getD-same}
@@ -54,10 +48,6 @@ module _ (file : List ℕ) (h : sound file ≡ true) where
   unfolding openingAccount
   start a = ap (λ (hs : List Holding). record { balance = pos (balanceFrom file a); maker = makerFrom file a; holdings = hs }) (none-start (contractsIn file))
 
-  nothing-held : (a c : ℕ) → getD (openingAccount file a .holdings) c noHolding ≡ noHolding
-  unfolding openingAccount
-  nothing-held a c = getD-same (contractsIn file) c noHolding
-
   balance-low : (a : ℕ) → a < accountsIn file → balanceFrom file a ≤ maxBalance
   unfolding sound accountSound
   balance-low a l =
@@ -72,15 +62,15 @@ module _ (file : List ℕ) (h : sound file ≡ true) where
       by-maker false = omega arith
 
   pub opening-sound : Sound (opening file)
-  unfolding opening openingListing
+  unfolding opening openingListing openingAccount
   opening-sound =
       record {
         contents =
             fresh-day (contractsIn file) (λ c. contractFrom file (contractPlace c)) (accountsIn file) (openingAccount file) 0 in-range start
             (omega arith)
             (λ a l. mark-low a)
-            (λ a c la lc. rw (nothing-held a c) (omega arith))
-            (λ a c la lc. rw (nothing-held a c) (omega arith))
+            (λ a c la lc. rw (getD-same (contractsIn file) c noHolding) (omega arith))
+            (λ a c la lc. rw (getD-same (contractsIn file) c noHolding) (omega arith))
             (λ a l. unfold openingAccount in omega (arith, balance-low a l));
         counts =
             fresh-counted (contractsIn file) (λ c. contractFrom file (contractPlace c)) (accountsIn file)

@@ -1,15 +1,8 @@
 -- The orders of an account that a command does not name, over a whole state: one law for each way in which a command changes queues, from a
 -- well-formed state. What each kind does stands in `EachKind`. Assumes nothing.
-use mathlib.Core.Bool.{Bool, true, false, not, _&&_}
-use mathlib.Core.List.{List, [], _++_, append-assoc, append-nil}
-use mathlib.Core.Path.{_≡_, refl, sym, ap, _∙_}
-use Prim.Native.Nat.{ℕ, _+_, _<_, _≤_}
-use native.Mathlib.Omega.{arith}
-use borrow.Author.Tests.{eqb-true, eqb-false, ne-eqb}
-use lib.Dec.{eqb}
 use lib.IntN.{ℤ}
-use lib.ListN.{length, length-set}
-use lib.Seq.{getD-set-same}
+use Rattle.laws.specs.Logic.{Bool, true, false, not, _&&_, List, [], _++_, append-nil, append-assoc, _≡_, refl, sym, ap, _∙_}
+use Rattle.laws.specs.Numbers.{ℕ, _+_, _<_, _≤_, arith, eqb-true, eqb-false, ne-eqb, eqb, length, length-set, getD-set-same}
 use Rattle.laws.specs.Choice.{pick, allOf, allOf-imp}
 use Rattle.rules.specs.Answers.{cancelRefusals, firstOf, listingOf, namedRefusals, ownerRefusals, removalRefused, restingOrder, takerOf}
 use Rattle.rules.specs.Auction.{matchOf}
@@ -22,10 +15,7 @@ use Rattle.rules.specs.Quote.{Offered, buyOf, half, quoted, quoteRefusals, sell
 use Rattle.rules.specs.Step.{cancelled, enteredOf, exchangeAfter, exchangeMatched, hasNumber, isOf, limitOf, listingAfter, listingMatched, listingWithout, paid, removed, withListing, without}
 use Rattle.rules.specs.Touches.{ordersOf}
 use Rattle.rules.specs.WellFormed.{isQuoteOf, orderInRange}
-use Rattle.rules.specs.declared.NewOrder.{NewOrder}
-use Rattle.rules.specs.declared.Order.{Order}
-use Rattle.rules.specs.declared.Taker.{Taker}
-use Rattle.rules.specs.declared.Trade.{Trade}
+use Rattle.rules.specs.declared.{NewOrder.NewOrder, Order.Order, Taker.Taker, Trade.Trade}
 use Rattle.rules.proofs.AuctionOutcome.{auction-either}
 use Rattle.rules.proofs.AuctionSteps.{entered-either, match-either}
 use Rattle.rules.proofs.Changes.{changed-either}
@@ -189,11 +179,8 @@ module _ (a : ℕ) where
     pub matched-fated : (phase : ℕ) → Fated x (exchangeMatched x d phase (matchOf x d))
     unfolding exchangeMatched listingMatched listingAt
     matched-fated phase =
-        fated-in d (matchOf x d .trades) x _ (matched-in x d phase) (λ sell. rw (getD-set-same (x .listings) d _ noListing there) (by-side sell))
-      where
-        by-side : (sell : Bool) → Fate d sell a (matchOf x d .trades) (own sell (listingAt x d)) (own sell (listingMatched (listingAt x d) phase (matchOf x d)))
-        by-side true = met .1
-        by-side false = met .0
+        fated-in d (matchOf x d .trades) x _ (matched-in x d phase) (λ sell. rw (getD-set-same (x .listings) d _ noListing there)
+        (elim sell [ false ↦ met .0 | true ↦ met .1 ]))
 
   -- ---- a quote: the old one removed, the buy entered, the sell entered
 
@@ -225,10 +212,6 @@ module _ (a : ℕ) where
     spares : Spared (hasNumber (k .number)) (listingNamed x (k .contract))
     spares = owned-in (k .number) a (placeOf (k .account)) other (listingNamed x (k .contract)) (once-in x w at (k .number)) (owned x w k e)
 
-    gone-fated : Fated x (gone x k)
-    unfolding gone
-    gone-fated = removed-fated x at (hasNumber (k .number)) (there x w k e) spares
-
     gone-there : at < length (gone x k .listings)
     unfolding gone
     gone-there = rw (length-set (x .listings) at _) (there x w k e)
@@ -248,10 +231,10 @@ module _ (a : ℕ) where
         by-side false = fate-none at false a _ _ (of-lessened a (k .number) (k .lots) (listingNamed x (k .contract) .buys) (spares false))
 
     pub changed-fated : Fated x (lastOf x (changed x k .stages))
-    unfolding cancelled removed placeLost unchanged
+    unfolding cancelled removed placeLost unchanged gone
     changed-fated =
         changed-either x k (λ ts f. Fated x (lastOf x (f .stages)))
         (λ f. removed-fated x at (hasNumber (k .number)) (there x w k e) spares)
-        (λ f. more-fated x (gone x k) _ gone-fated lost-fated)
+        (λ f. more-fated x (gone x k) _ (removed-fated x at (hasNumber (k .number)) (there x w k e) spares) lost-fated)
         (λ f g. same-fated x)
         (λ f g h. kept-fated)

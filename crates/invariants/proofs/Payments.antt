@@ -1,15 +1,8 @@
 -- A deposit and a withdrawal keep a state well formed: they change one balance, within its bound. Assumes nothing.
-use mathlib.Core.Bool.{false}
-use mathlib.Core.List.{List, [], map}
-use mathlib.Core.Path.{_≡_, refl, sym, ap, _∙_}
-use Prim.Native.Nat.{ℕ, suc, _+_, _*_, _<_, _≤_}
-use native.Mathlib.Omega.{arith}
-use native.Mathlib.Nat.{le-refl}
-use borrow.Author.Tests.{ltb-false}
 use lib.IntN.{ℤ, pos, negsuc, natAbs, _+ℤ_, _-ℤ_}
 use lib.Signed.{ltZ}
-use lib.ListN.{length, getD, set, length-set, List·getD-map}
-use lib.Seq.{map-set-same}
+use Rattle.laws.specs.Logic.{false, List, [], map, _≡_, refl, sym, ap, _∙_}
+use Rattle.laws.specs.Numbers.{ℕ, suc, _+_, _*_, _<_, _≤_, le-refl, arith, ltb-false, length, getD, set, length-set, List·getD-map, map-set-same}
 use Rattle.laws.specs.Bound.{within-abs, within-d, abs-within}
 use Rattle.laws.specs.Choice.{either-false}
 use Rattle.laws.specs.Lists.{kept-at, map-set, at-set}
@@ -21,8 +14,7 @@ use Rattle.rules.specs.Holdings.{bookTrades, startAccount, startOfDay}
 use Rattle.rules.specs.Kinds.{lastOf}
 use Rattle.rules.specs.Margin.{charged}
 use Rattle.rules.specs.Step.{withBalance, paid, deposited, withdrawn}
-use Rattle.rules.specs.declared.Account.{Account}
-use Rattle.rules.specs.declared.Holding.{Holding}
+use Rattle.rules.specs.declared.{Account.Account, Holding.Holding}
 use Rattle.rules.proofs.Refusals.{failed, present}
 use Rattle.invariants.proofs.Carry.{trades-carried}
 use Rattle.invariants.proofs.Clauses.{WellFormed, Counted}

@@ -1,15 +1,7 @@
 -- A change of a contract's state keeps the exchange's state well formed, the match of an auction with it: the book that the auction
 -- leaves is uncrossed. Assumes nothing.
-use mathlib.Core.Bool.{Bool, true, false, not}
-use mathlib.Core.List.{List, [], _∷_}
-use mathlib.Core.Path.{_≡_, refl, sym, ap, subst}
-use Prim.Native.Nat.{ℕ, _+_, _<_, _≤_}
-use native.Mathlib.Nat.{le-refl}
-use native.Mathlib.Omega.{arith}
-use borrow.Author.Tests.{eqb-true, leb-true, le-leb, lt-ltb, ltb-false, not-false}
-use lib.Dec.{eqb}
-use lib.ListN.{length}
-use lib.Seq.{getD-set-same}
+use Rattle.laws.specs.Logic.{Bool, true, false, not, List, [], _∷_, _≡_, refl, sym, ap, subst}
+use Rattle.laws.specs.Numbers.{ℕ, _+_, _<_, _≤_, le-refl, arith, eqb-true, leb-true, ltb-false, le-leb, lt-ltb, not-false, eqb, length, getD-set-same}
 use Rattle.laws.specs.Choice.{pick, allOf, allOf-imp}
 use Rattle.laws.specs.Chains.{all-passed, join}
 use Rattle.laws.specs.Sums.{sumOf-at}
@@ -21,9 +13,7 @@ use Rattle.rules.specs.Holdings.{bookTrades}
 use Rattle.rules.specs.Kinds.{lastOf}
 use Rattle.rules.specs.Step.{withLast, withPhase, withTrades, listingMatched, exchangeMatched, phaseChanged}
 use Rattle.rules.specs.WellFormed.{allNumbers, allStamps, contractInRange, markAllowed, orderInRange, sorted, tradeInRange, uncrossed, numberOf, stampOf}
-use Rattle.rules.specs.declared.Contract.{Contract}
-use Rattle.rules.specs.declared.Holding.{Holding}
-use Rattle.rules.specs.declared.Order.{Order}
+use Rattle.rules.specs.declared.{Contract.Contract, Holding.Holding, Order.Order}
 use Rattle.rules.proofs.AuctionOutcome.{auction-either, auction-price-passes, auction-taken, auction-uncrosses}
 use Rattle.rules.proofs.AuctionSteps.{match-either}
 use Rattle.rules.proofs.AuctionTaken.{Taken}
@@ -119,8 +109,7 @@ module _ (x : Exchange) (k : WellFormed x) (c : ℕ) (there : c < length (x .lis
   taken true = (_, auction-taken c (before .contract .last) (before .buys) (before .sells) (ok .order false) (ok .order true) .1)
 
   have-lots : (sell : Bool) → allOf hasLots (own sell before) ≡ true
-  have-lots sell =
-      allOf-imp inRange hasLots (own sell before) (λ o h. lt-ltb 0 (o .lots) (order-ok _ _ _ _ o h .lots-low)) (ok .orders sell)
+  have-lots sell = allOf-imp inRange hasLots (own sell before) (λ o h. lt-ltb 0 (o .lots) (order-ok _ _ _ _ o h .lots-low)) (ok .orders sell)
 
   price-allowed : 0 < volume (before .buys) (before .sells) price → allowedToday (before .contract) price ≡ true
   price-allowed some =
@@ -214,19 +203,8 @@ module _ (x : Exchange) (k : WellFormed x) (c : ℕ) (there : c < length (x .lis
           closes = λ side. elim side [ false ↦ r .buy-closes | true ↦ r .sell-closes ];
         }
 
-    allows-here : Allows (before .contract) (after .contract)
-    unfolding listingMatched
-    allows-here = allows-changed (before .contract) _ phase
-
-    uses-after : (field : Order → ℕ) → KeptByLots field → (n : ℕ) → usesIn field n after ≤ usesIn field n before
-    unfolding listingMatched usesIn
-    uses-after field kept n = match-ok .values field kept n
-
-    marks-after : (sell : Bool) → MarksOk (x .accounts) (own sell after)
-    unfolding listingMatched
-    marks-after = match-ok .marks
-
     trades-ok : TradesOk x c after (matchOf x c .trades) (x .next) (x .nextstamp)
+    unfolding listingMatched usesIn
     trades-ok =
         record {
           there = there;
@@ -235,17 +213,17 @@ module _ (x : Exchange) (k : WellFormed x) (c : ℕ) (there : c < length (x .lis
           stamped = le-refl (x .nextstamp);
           stamps-high = k .nextstamp-high;
           listing = listing-after;
-          allows = allows-here;
-          numbers = λ n. omega (arith, uses-after numberOf (λ o lots. (refl, refl)) n, once-count (allNumbers (x .listings)) (k .once) n);
-          stamps = λ n. omega (arith, uses-after stampOf (λ o lots. (refl, refl)) n, once-count (allStamps (x .listings)) (k .stamps-once) n);
+          allows = allows-changed (before .contract) _ phase;
+          numbers = λ n. omega (arith, match-ok .values numberOf (λ o lots. (refl, refl)) n, once-count (allNumbers (x .listings)) (k .once) n);
+          stamps = λ n. omega (arith, match-ok .values stampOf (λ o lots. (refl, refl)) n, once-count (allStamps (x .listings)) (k .stamps-once) n);
           ranges =
               match-ok .ranges (withTrades x c after (matchOf x c .trades) (x .next) (x .nextstamp)) (omega (arith, traded-listings x c after (matchOf x c .trades) (x .next) (x .nextstamp)))
               (traded-accounts x c after (matchOf x c .trades) (x .next) (x .nextstamp)) (le-refl (x .next))
-              (traded-allows x c after (matchOf x c .trades) (x .next) (x .nextstamp) there allows-here c);
+              (traded-allows x c after (matchOf x c .trades) (x .next) (x .nextstamp) there (allows-changed (before .contract) _ phase) c);
           here = match-ok .here;
           never = match-ok .holdings (λ a. before .contract .limit) kept-now .never;
           holding = holding-after;
-          marks = marks-after;
+          marks = match-ok .marks;
         }
 
     changed-keeps : WellFormed (exchangeMatched x c phase (matchOf x c))

@@ -1,23 +1,15 @@
 -- A STATE WRITTEN OVER A MEMORY, told place by place: new, zero, or as it was (specs/ByPlace). Of one write, of the stages of a
 -- command, and so of every command. Assumes nothing.
-use mathlib.Core.Bool.{Bool, true, false, _&&_, _||_}
-use mathlib.Core.List.{List, [], _∷_, map}
-use mathlib.Core.Path.{_≡_, refl, sym, ap, ap₂, subst, _∙_}
-use Prim.Native.Nat.{ℕ, zero, suc, _+_, _-_, _*_, _<_, _≤_}
-use native.Mathlib.Nat.{le-refl, le-of-suc-le-suc, not-suc-le-zero}
-use native.Mathlib.Omega.{arith}
-use borrow.Author.Tests.{ltb-true, ltb-false, le-ltb}
-use lib.Dec.{ltb}
-use lib.ListN.{length, getD, drop, length-map, List·getD-append, List·getD-eq-default}
-use lib.Seq.{getD-drop, getD-append-add}
+use lib.ListN.{List·getD-eq-default}
+use Rattle.laws.specs.Logic.{Bool, true, false, _&&_, _||_, List, [], _∷_, map, _≡_, refl, sym, ap, ap₂, subst, _∙_}
+use Rattle.laws.specs.Numbers.{ℕ, zero, suc, _+_, _-_, _*_, _<_, _≤_, le-refl, le-of-suc-le-suc, not-suc-le-zero, arith, ltb-true, ltb-false, le-ltb, ltb}
+use Rattle.laws.specs.Numbers.{length, getD, drop, length-map, List·getD-append, getD-drop, getD-append-add}
 use Rattle.laws.specs.Choice.{pick}
 use Rattle.rules.specs.Bounds.{maxResting}
-use Rattle.rules.specs.Exchange.{Exchange, Listing, listingAt, accountAt, holdingAt, own, noAccount, noContract, noHolding, noListing, noOrder, noTrade}
+use Rattle.rules.specs.Exchange.{Exchange, Listing, listingAt, accountAt, holdingAt, own, noAccount, noHolding, noListing, noOrder, noTrade}
 use Rattle.rules.specs.Kinds.{decide, kindOf, lastOf, step}
 use Rattle.rules.specs.Memory.{Memory, Declared, exchangeOf, firstWord, listingIn, orderStride, put, putAccount, putAccounts, putFirst, putQueues, putState, queueStride, respond, stepIn, tradeStride, tradeWords, wellFormedMemory, wordOf, written}
-use Rattle.rules.specs.declared.Account.{Account}
-use Rattle.rules.specs.declared.Command.{Command}
-use Rattle.rules.specs.declared.Order.{Order}
+use Rattle.rules.specs.declared.{Account.Account, Command.Command, Order.Order}
 use Rattle.rules.proofs.Codecs.{length-queue, length-trades}
 use Rattle.rules.proofs.InUse.{contracts-in-use, listing-in-use}
 use Rattle.rules.proofs.PutByPlace.{word-putQueues, word-putQueues-past, word-putTrades}
@@ -52,10 +44,8 @@ neither s t word was p q = rw (p, q)
 past-first : {A : Type 0} (values room : List A) (c : ℕ) (d : A) → length values ≤ c → getD (putFirst values room) c d ≡ getD room c d
 past-first values room c d h =
     let e : c ≡ length values + (c - length values) = omega arith in
-    ap (λ (k : ℕ). getD (putFirst values room) k d) e
-    ∙ getD-append-add values (drop (length values) room) (c - length values) d
-    ∙ getD-drop (length values) room (c - length values) d
-    ∙ ap (λ (k : ℕ). getD room k d) (sym e)
+    ap (λ (k : ℕ). getD (putFirst values room) k d) e ∙ getD-append-add values (drop (length values) room) (c - length values) d
+    ∙ getD-drop (length values) room (c - length values) d ∙ ap (λ (k : ℕ). getD room k d) (sym e)
 
 first-by-place : {A : Type 0} (f : Listing → A) (ls : List Listing) (room : List A) (c : ℕ) →
     getD (putFirst (map f ls) room) c (f noListing) ≡ pick (ltb c (length ls)) (f (getD ls c noListing)) (getD room c (f noListing))
@@ -98,8 +88,7 @@ module _ (m : Memory) (counts : CountsOk (m .state)) (room : RoomOk m) (arrays :
   not-listed y c h = List·getD-eq-default (y .listings) noListing {n = c} h
 
   -- a side's area, its counts, and which of a listing's queues it holds
-  side-told : (area cs : List ℕ) (side : Listing → List Order) → side noListing ≡ [] →
-      ((c : ℕ) → length (side (listingIn m c)) ≡ getD cs c 0) →
+  side-told : (area cs : List ℕ) (side : Listing → List Order) → side noListing ≡ [] → ((c : ℕ) → length (side (listingIn m c)) ≡ getD cs c 0) →
       ((c : ℕ) → c < m .state .contractcount → getD cs c 0 ≤ maxResting) →
       ((c : ℕ) → c < m .state .contractcount → length (side (listingAt x c)) ≤ maxResting) →
       queueStride * m .state .contractcount ≤ length area →
@@ -133,8 +122,7 @@ module _ (m : Memory) (counts : CountsOk (m .state)) (room : RoomOk m) (arrays :
           (getD area (firstWord c i + word) 0) (empty x (omega (arith, contracts)))
           (in-the-one inPlace (exchangeOf m) ∙ empty (exchangeOf m) (omega (arith, contracts-in-use m)))
 
-  orders-told : (sell : Bool) (c i word : ℕ) → i < maxResting → word < orderStride →
-      getD (areaOf sell (put m x)) (firstWord c i + word) 0
+  orders-told : (sell : Bool) (c i word : ℕ) → i < maxResting → word < orderStride → getD (areaOf sell (put m x)) (firstWord c i + word) 0
       ≡ byPlace (rests sell c i x) (inOne (rests sell c i) (exchangeOf m ∷ [])) (wordOf word (getD (own sell (listingAt x c)) i noOrder))
       (getD (areaOf sell m) (firstWord c i + word) 0)
   unfolding put listingIn
@@ -145,21 +133,14 @@ module _ (m : Memory) (counts : CountsOk (m .state)) (room : RoomOk m) (arrays :
       side-told (m .buys) (m .state .buycounts) (λ l. l .buys) refl (λ c. length-queue (m .buys) c (getD (m .state .buycounts) c 0)) (counts .buys)
       (λ c l. few .queues c false (rw contracts l)) (room .buys)
 
-  trades-told : (i word : ℕ) → word < tradeStride →
-      getD (put m x .trades) (tradeStride * i + word) 0
+  trades-told : (i word : ℕ) → word < tradeStride → getD (put m x .trades) (tradeStride * i + word) 0
       ≡ byPlace (made i x) (inOne (made i) (exchangeOf m ∷ [])) (getD (tradeWords (getD (x .trades) i noTrade)) word 0)
       (getD (m .trades) (tradeStride * i + word) 0)
   unfolding put exchangeOf
   trades-told i word b =
-      word-putTrades (m .trades) (m .state .tradecount) (x .trades) i word b
-      ∙ ap
+      word-putTrades (m .trades) (m .state .tradecount) (x .trades) i word b ∙ ap
       (λ (t : Bool). byPlace (made i x) t (getD (tradeWords (getD (x .trades) i noTrade)) word 0) (getD (m .trades) (tradeStride * i + word) 0))
       (sym (in-the-one (made i) (exchangeOf m) ∙ ap (λ (n : ℕ). ltb i n) (length-trades (m .trades) (m .state .tradecount))))
-
-  contracts-told : (c : ℕ) →
-      getD (put m x .state .contracts) c noContract ≡ pick (listed c x) (listingAt x c .contract) (getD (m .state .contracts) c noContract)
-  unfolding put putState listingAt
-  contracts-told = first-by-place (λ l. l .contract) (x .listings) (m .state .contracts)
 
   counts-told : (sell : Bool) (c : ℕ) →
       getD (countsOf sell (put m x)) c 0 ≡ pick (listed c x) (length (own sell (listingAt x c))) (getD (countsOf sell m) c 0)
@@ -197,14 +178,12 @@ module _ (m : Memory) (counts : CountsOk (m .state)) (room : RoomOk m) (arrays :
       let l : a < length (exchangeOf m .accounts) = rw (shape .accounts) at (ltb-true a (length (x .accounts)) e) in
       shape .wide a l ∙ counted-shaped m arrays few-contracts a l ∙ sym (shape .listings)
 
-  holdings-told : (a c : ℕ) →
-      holdingAt (put m x .state .accounts) a c
+  holdings-told : (a c : ℕ) → holdingAt (put m x .state .accounts) a c
       ≡ pick (known a x && listed c x) (holdingAt (x .accounts) a c) (holdingAt (m .state .accounts) a c)
   unfolding holdingAt
   holdings-told a c = by-known-and-listed (known a x) (listed c x) refl refl
     where
-      in-account : known a x ≡ true →
-          holdingAt (put m x .state .accounts) a c
+      in-account : known a x ≡ true → holdingAt (put m x .state .accounts) a c
           ≡ getD (putFirst (accountAt (x .accounts) a .holdings) (accountAt (m .state .accounts) a .holdings)) c noHolding
       in-account e = ap (λ (v : Account). getD (v .holdings) c noHolding) (account-written a e)
 
@@ -215,8 +194,7 @@ module _ (m : Memory) (counts : CountsOk (m .state)) (room : RoomOk m) (arrays :
           ∙ List·getD-append (accountAt (x .accounts) a .holdings) (drop (length (accountAt (x .accounts) a .holdings)) (accountAt (m .state .accounts) a .holdings)) noHolding c
           (rw (wide a p) (ltb-true c (length (x .listings)) q))
       by-known-and-listed true false p q =
-          in-account p
-          ∙ past-first (accountAt (x .accounts) a .holdings) (accountAt (m .state .accounts) a .holdings) c noHolding
+          in-account p ∙ past-first (accountAt (x .accounts) a .holdings) (accountAt (m .state .accounts) a .holdings) c noHolding
           (rw (wide a p) (ltb-false c (length (x .listings)) q))
       by-known-and-listed false t p q = ap (λ (v : Account). getD (v .holdings) c noHolding) (account-unaltered a p)
 
@@ -226,12 +204,12 @@ module _ (m : Memory) (counts : CountsOk (m .state)) (room : RoomOk m) (arrays :
 
   -- A STATE WRITTEN OVER A MEMORY
   pub written-told : Told m (exchangeOf m ∷ []) x (put m x)
-  unfolding put putState
+  unfolding put putState listingAt
   written-told =
       record {
         orders = orders-told;
         trades = trades-told;
-        contracts = contracts-told;
+        contracts = first-by-place (λ l. l .contract) (x .listings) (m .state .contracts);
         counts = counts-told;
         balances = field-told (λ v. v .balance) (λ v r. refl);
         makers = field-told (λ v. v .maker) (λ v r. refl);
@@ -290,24 +268,19 @@ module _ (m : Memory) (x y z : Exchange) (others : List Exchange) (m′ m″ : M
             ∙ ap (byPlace (made i z) (inOne (made i) (y ∷ others)) (getD (tradeWords (getD (z .trades) i noTrade)) word 0)) (first .trades i word b)
             ∙ word-again (made i z) (made i y) (made i x) (inOne (made i) others) _ _ _;
         contracts = λ c.
-            second .contracts c
-            ∙ ap (λ v. pick (listed c z) (listingAt z c .contract) v) (first .contracts c)
+            second .contracts c ∙ ap (λ v. pick (listed c z) (listingAt z c .contract) v) (first .contracts c)
             ∙ value-again (listed c z) (listed c y) _ _ _ (same-listed c);
         counts = λ sell c.
-            second .counts sell c
-            ∙ ap (λ v. pick (listed c z) (length (own sell (listingAt z c))) v) (first .counts sell c)
+            second .counts sell c ∙ ap (λ v. pick (listed c z) (length (own sell (listingAt z c))) v) (first .counts sell c)
             ∙ value-again (listed c z) (listed c y) _ _ _ (same-listed c);
         balances = λ a.
-            second .balances a
-            ∙ ap (λ v. pick (known a z) (accountAt (z .accounts) a .balance) v) (first .balances a)
+            second .balances a ∙ ap (λ v. pick (known a z) (accountAt (z .accounts) a .balance) v) (first .balances a)
             ∙ value-again (known a z) (known a y) _ _ _ (same-known a);
         makers = λ a.
-            second .makers a
-            ∙ ap (λ v. pick (known a z) (accountAt (z .accounts) a .maker) v) (first .makers a)
+            second .makers a ∙ ap (λ v. pick (known a z) (accountAt (z .accounts) a .maker) v) (first .makers a)
             ∙ value-again (known a z) (known a y) _ _ _ (same-known a);
         holdings = λ a c.
-            second .holdings a c
-            ∙ ap (λ v. pick (known a z && listed c z) (holdingAt (z .accounts) a c) v) (first .holdings a c)
+            second .holdings a c ∙ ap (λ v. pick (known a z && listed c z) (holdingAt (z .accounts) a c) v) (first .holdings a c)
             ∙ value-again (known a z && listed c z) (known a y && listed c y) _ _ _ (ap₂ (λ (s t : Bool). s && t) (same-known a) (same-listed c));
         contractcount = second .contractcount ∙ first .contractcount;
         accountcount = second .accountcount ∙ first .accountcount;

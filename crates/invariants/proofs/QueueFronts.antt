@@ -1,14 +1,8 @@
 -- A queue taken from its front: so many orders have traded, all but the last of them are gone, that one keeps some lots or is gone too, and
 -- those behind it are as they were. Where the queue is sorted and its numbers are used once, price then time follows. Assumes nothing.
-use mathlib.Core.Bool.{Bool, true, false, not, _&&_, _||_}
-use mathlib.Core.List.{List, [], _∷_, _++_}
-use mathlib.Core.Logic.{_⊎_, inl, inr}
-use mathlib.Core.Path.{_≡_, refl, sym, ap, _∙_}
-use Prim.Native.Nat.{ℕ, zero, suc, _+_, _-_, _<_, _≤_}
-use native.Mathlib.Omega.{arith}
-use borrow.Author.Tests.{ltb-true, ltb-false, le-ltb, eqb-true, eqb-false, eq-eqb, ne-eqb, not-true}
-use lib.Dec.{ltb, eqb}
-use lib.ListN.{length, drop}
+use Rattle.laws.specs.Logic.{Bool, true, false, not, _&&_, _||_, List, [], _∷_, _++_, _⊎_, inl, inr, _≡_, refl, sym, ap, _∙_}
+use Rattle.laws.specs.Numbers.{ℕ, zero, suc, _+_, _-_, _<_, _≤_, arith, eqb-true, eqb-false, ltb-true, ltb-false, eq-eqb, ne-eqb, le-ltb, not-true, eqb, ltb}
+use Rattle.laws.specs.Numbers.{length, drop}
 use Rattle.laws.specs.Choice.{pick, pick-true, allOf, allOf-append, allOf-at, both-false, both-true, true-both}
 use Rattle.laws.specs.Sums.{sumOf-at, sumOf-ext}
 use Rattle.rules.specs.Auction.{lessFirst}
@@ -16,8 +10,7 @@ use Rattle.rules.specs.Exchange.{lotsWhere, noOrder, worse}
 use Rattle.rules.specs.Fairness.{PriceThenTime, isGone, lotsNumbered, lotsTraded, orderAt}
 use Rattle.rules.specs.Matching.{stays, withLots}
 use Rattle.rules.specs.WellFormed.{ahead, aheadOfFirst, listed, numbers, sorted, usedOnce}
-use Rattle.rules.specs.declared.Order.{Order}
-use Rattle.rules.specs.declared.Trade.{Trade}
+use Rattle.rules.specs.declared.{Order.Order, Trade.Trade}
 use Rattle.rules.proofs.AuctionTurns.{less-filled, less-part}
 use Rattle.rules.proofs.Queue.{lots-append, lots-met, lots-nil, lots-unmet}
 use Rattle.rules.proofs.Sorted.{AllBehind, Behind, behind-refl, sorted-behind, sorted-tail}
@@ -193,8 +186,7 @@ module _ (sell : Bool) where
 
       by-place : (before : Bool) → ltb i j ≡ before → (behind : Bool) → ltb j i ≡ behind → i < j
       by-place true a c b = ltb-true i j a
-      by-place false a true b =
-          absurd (in-front-asym sell (orderAt os i) (orderAt os j) f (each-in-front os s j i (ltb-true j i b) h))
+      by-place false a true b = absurd (in-front-asym sell (orderAt os i) (orderAt os j) f (each-in-front os s j i (ltb-true j i b) h))
       by-place false a false b =
           let x = ltb-false i j a in
           let y = ltb-false j i b in
@@ -223,8 +215,7 @@ gone-lots test number [] h = lots-nil (λ p. eqb (p .number) number && test p)
 gone-lots test number (o ∷ os) h =
     let b = both-true (not (eqb number (o .number))) (allOf (λ p. not (eqb number (p .number))) os) h in
     let e : eqb (o .number) number ≡ false = ne-eqb (o .number) number (λ e. eqb-false number (o .number) (not-true (eqb number (o .number)) (b .0)) (sym e)) in
-    lots-unmet (λ p. eqb (p .number) number && test p) o os (rw e)
-    ∙ gone-lots test number os (b .1)
+    lots-unmet (λ p. eqb (p .number) number && test p) o os (rw e) ∙ gone-lots test number os (b .1)
 
 pub one-lots : (test : Order → Bool) (os : List Order) → usedOnce (numbers os) ≡ true → (i : ℕ) → i < length os
     → lotsWhere (λ p. eqb (p .number) (orderAt os i .number) && test p) os ≡ pick (test (orderAt os i)) (orderAt os i .lots) 0
@@ -239,8 +230,7 @@ one-lots test (o ∷ os) u (suc i) h =
     let b = once-first o os u in
     let n = orderAt os i .number in
     let e : eqb (o .number) n ≡ false = not-true (eqb (o .number) n) (allOf-at (λ p. not (eqb (o .number) (p .number))) os i noOrder (b .0) (omega arith)) in
-    lots-unmet (λ p. eqb (p .number) n && test p) o os (rw e)
-    ∙ one-lots test os (b .1) i (omega arith)
+    lots-unmet (λ p. eqb (p .number) n && test p) o os (rw e) ∙ one-lots test os (b .1) i (omega arith)
 
 -- the same of all orders
 of-number : (number : ℕ) (os : List Order) → lotsNumbered number os ≡ lotsWhere (λ p. eqb (p .number) number && true) os
@@ -250,9 +240,6 @@ of-number number os = sumOf-ext _ _ os (λ p. by-number (eqb (p .number) number)
     by-number : (b : Bool) (lots : ℕ) → pick b lots 0 ≡ pick (b && true) lots 0
     by-number true lots = refl
     by-number false lots = refl
-
-gone-no-lots : (number : ℕ) (os : List Order) → isGone number os ≡ true → lotsNumbered number os ≡ 0
-gone-no-lots number os h = of-number number os ∙ gone-lots (λ p. true) number os h
 
 own-lots : (os : List Order) → usedOnce (numbers os) ≡ true → (i : ℕ) → i < length os → lotsNumbered (orderAt os i .number) os ≡ orderAt os i .lots
 own-lots os u i h = of-number (orderAt os i .number) os ∙ one-lots (λ p. true) os u i h
@@ -304,7 +291,7 @@ module _ (sell : Bool) (queue after : List Order) (trades : List Trade) (s : sor
       record {
         filled = λ i j h k a some.
             let n = orderAt queue i .number in
-            omega (arith, accounted n, own-lots queue u i h, gone-no-lots n after (ahead-gone i j h k a some));
+            omega (arith, accounted n, own-lots queue u i h, of-number n after ∙ gone-lots (λ p. true) n after (ahead-gone i j h k a some));
         leaves = ahead-gone;
       }
 

@@ -1,15 +1,9 @@
 -- A QUOTE IS ITS ORDERS ONE AFTER THE OTHER (document 02, ticket 7): marks aside, a quote that passes 24 gets the code, the lots and the state
 -- of these commands: cancel what is left of the old quote (no, one or two orders), insert the buy, insert the sell; and it is refused with
 -- the first code that any of them gets. Assumes nothing.
-use mathlib.Core.Bool.{Bool, true, false}
-use mathlib.Core.List.{List, [], _∷_, _++_, append-nil, map}
-use mathlib.Core.Path.{_≡_, refl, sym, ap, _∙_}
-use Prim.Native.Nat.{ℕ, _+_, _<_, _≤_}
-use native.Mathlib.Omega.{arith}
-use borrow.Author.Tests.{eqb-true, eqb-false}
-use lib.Dec.{ltb, eqb}
-use lib.ListN.{length, length-set}
-use lib.Seq.{getD-set-same, set-getD, set-set}
+use lib.Seq.{set-set}
+use Rattle.laws.specs.Logic.{Bool, true, false, List, [], _∷_, _++_, map, append-nil, _≡_, refl, sym, ap, _∙_}
+use Rattle.laws.specs.Numbers.{ℕ, _+_, _<_, _≤_, arith, eqb-true, eqb-false, eqb, ltb, length, length-set, getD-set-same, set-getD}
 use Rattle.laws.specs.Choice.{pick, allOf, allOf-append, both-true}
 use Rattle.laws.specs.Sums.{sumOf-append, sumOf-at}
 use Rattle.rules.specs.Answers.{cancelRefusals, firstOf, insertRefusals, listingOf, orderRefusals, pullRefusals, removalRefused, restingOrder, takesOrders}
@@ -17,17 +11,15 @@ use Rattle.rules.specs.Bounds.{continuous}
 use Rattle.rules.specs.Exchange.{Exchange, Listing, absent, accountAt, listingAt, noListing, placeOf}
 use Rattle.rules.specs.Kinds.{codeOf, decide, kindOf, lastOf, step}
 use Rattle.rules.specs.Matching.{Entered, tradedLots}
-use Rattle.rules.specs.Quote.{Offered, buyEntered, buyOf, half, offered, quoteRefusals, quoted, sellEntered, sellOf, withBuy, withSell, withoutQuote}
+use Rattle.rules.specs.Quote.{Offered, buyOf, half, offered, quoteRefusals, quoted, sellEntered, sellOf, withBuy, withSell, withoutQuote}
 use Rattle.rules.specs.Step.{answerOf, cancelled, enteredOf, exchangeAfter, hasNumber, inserted, listingAfter, listingWithout, removed, withListing}
 use Rattle.rules.specs.WellFormed.{allNumbers, isQuoteOf, numberOf, quotes, wellFormedContents}
 use Rattle.rules.specs.declared.Answer.{Answer}
-use Rattle.rules.specs.declared.Command.{Command}
+use Rattle.rules.specs.declared.{Command.Command, NewOrder.NewOrder, Order.Order}
 use Rattle.rules.specs.declared.Command.the-variants.{Insert, Cancel, Quote}
-use Rattle.rules.specs.declared.NewOrder.{NewOrder}
-use Rattle.rules.specs.declared.Order.{Order}
 use Rattle.rules.proofs.Holdings.{length-bookTrades}
 use Rattle.rules.proofs.WithoutMarks.{after-unmarked, entered-unmarked, plainEntered, refusals-unmarked, withoutMarks}
-use Rattle.rules.proofs.Refusals.{Coded, first-append, present}
+use Rattle.rules.proofs.Refusals.{first-append, present}
 use Rattle.invariants.proofs.Clauses.{WellFormed, well-formed}
 use Rattle.invariants.proofs.Numbers.{all-uses, once-count, uses, usesIn}
 use Rattle.invariants.proofs.Removal.{removed-keeps}
@@ -83,8 +75,7 @@ pub record Passes24 (x : Exchange) (q : Offered) : Type 0 where
 -- A QUOTE AND ITS ORDERS: the same code, and where it is 0 the same answer and the same state, marks aside
 pub record AsOrders (x : Exchange) (account contract lots buy sell : ℕ) : Type 0 where
   pub code : codeOf x (Quote account contract lots buy sell) ≡ firstCode x (ordersOf x (offered account contract lots buy sell))
-  pub answer : codeOf x (Quote account contract lots buy sell) ≡ 0 →
-      decide x (Quote account contract lots buy sell) .answer
+  pub answer : codeOf x (Quote account contract lots buy sell) ≡ 0 → decide x (Quote account contract lots buy sell) .answer
       ≡ summed (answered (beforeBuy x (offered account contract lots buy sell)) (buyOf (offered account contract lots buy sell)))
       (answered (beforeSell x (offered account contract lots buy sell)) (sellOf (offered account contract lots buy sell)))
   pub state : codeOf x (Quote account contract lots buy sell) ≡ 0 →
@@ -94,10 +85,6 @@ pub record AsOrders (x : Exchange) (account contract lots buy sell : ℕ) : Type
 accepted-step : (x : Exchange) (d : Command) → codeOf x d ≡ 0 → step x d ≡ lastOf x (kindOf x d .effect .stages)
 unfolding step decide
 accepted-step x d e = rw e refl
-
-accepted-answer : (x : Exchange) (d : Command) → codeOf x d ≡ 0 → decide x d .answer ≡ answerOf 0 (kindOf x d .effect .number) (kindOf x d .effect .traded) (kindOf x d .effect .lots)
-unfolding decide
-accepted-answer x d e = rw e refl
 
 -- ---- the cancels
 
@@ -156,21 +143,18 @@ module _ (x : Exchange) (w : WellFormed x) (q : Offered) (p : Passes24 x q) wher
     abbrev after : Exchange
     after = withListing x place rest
 
-    left-both : only (isQuoteOf account) both ≡ o ∷ os
-    unfolding quoteLeft
-    left-both = e
-
     its-own : allOf (satisfies (isQuoteOf account) (o .number)) both ≡ true
-    its-own = first-satisfies (isQuoteOf account) o os both left-both (used-once (o .number))
+    unfolding quoteLeft
+    its-own = first-satisfies (isQuoteOf account) o os both e (used-once (o .number))
 
     cancel-code : codeOf x (cancelOf q o) ≡ 0
-    unfolding codeOf kindOf cancelRefusals pullRefusals firstOf restingOrder removalRefused
+    unfolding codeOf kindOf cancelRefusals pullRefusals firstOf restingOrder removalRefused quoteLeft
     cancel-code =
         rw (
           p .account,
           p .contract,
           p .open′,
-          used-found (isQuoteOf account) (o .number) both (first-used (isQuoteOf account) o os both left-both),
+          used-found (isQuoteOf account) (o .number) both (first-used (isQuoteOf account) o os both e),
           own-found (isQuoteOf account) (o .number) account (λ r h. both-true (eqb (r .account) account) (eqb (r .quote) 1) h .0) both its-own,
         ) refl
 
@@ -189,7 +173,7 @@ module _ (x : Exchange) (w : WellFormed x) (q : Offered) (p : Passes24 x q) wher
     unfolding quoteLeft
     after-left =
         rw (after-listing, ← without-append (hasNumber (o .number)) (listingAt x place .buys) (listingAt x place .sells))
-        (others-left (isQuoteOf account) o os both left-both (used-once (o .number)))
+        (others-left (isQuoteOf account) o os both e (used-once (o .number)))
 
     after-same : withoutQuote after q ≡ withoutQuote x q
     unfolding withoutQuote
@@ -221,15 +205,6 @@ cancels q (o ∷ os) x w p e ds =
 
 -- ---- the inserts
 
-order-coded : (x : Exchange) (o : NewOrder) → Coded (orderRefusals x o)
-unfolding orderRefusals
-order-coded x o = omega arith
-
-insert-code : (x : Exchange) (o : NewOrder) → absent (o .account) (x .accounts) ≡ false → absent (o .contract) (x .listings) ≡ false → eqb (listingOf x o .contract .phase) continuous ≡ true →
-    codeOf x (Insert o) ≡ firstOf (orderRefusals x o)
-unfolding codeOf kindOf insertRefusals firstOf takesOrders listingOf
-insert-code x o a c h = rw (a, c, h) refl
-
 abbrev insertedTo : Exchange → ℕ → NewOrder → Exchange
 insertedTo x quote o = exchangeAfter x o (enteredOf x (x .next) quote o) (x .next + 1)
 
@@ -240,8 +215,8 @@ abbrev answerFor : Exchange → NewOrder → Answer
 answerFor x o = answerOf 0 (x .next) (tradedLots (enteredOf x (x .next) 0 o .trades)) (enteredOf x (x .next) 0 o .rested)
 
 insert-answer : (x : Exchange) (o : NewOrder) → codeOf x (Insert o) ≡ 0 → decide x (Insert o) .answer ≡ answerFor x o
-unfolding kindOf inserted
-insert-answer x o e = accepted-answer x (Insert o) e
+unfolding kindOf inserted decide
+insert-answer x o e = rw e refl
 
 -- marked or not, it is entered alike, marks aside
 same-entered : (x : Exchange) (number quote : ℕ) (o : NewOrder) → plainEntered (enteredOf x number quote o) ≡ plainEntered (enteredOf x number 0 o)
@@ -257,8 +232,7 @@ module _ (x y : Exchange) (e : withoutMarks x ≡ withoutMarks y) (o : NewOrder)
 
   same-after : (number quote next : ℕ) → withoutMarks (exchangeAfter x o (enteredOf x number quote o) next) ≡ withoutMarks (exchangeAfter y o (enteredOf y number 0 o) next)
   same-after number quote next =
-      after-unmarked x o number quote next
-      ∙ ap (λ (z : Exchange). exchangeAfter z o (enteredOf z number 0 o) next) e
+      after-unmarked x o number quote next ∙ ap (λ (z : Exchange). exchangeAfter z o (enteredOf z number 0 o) next) e
       ∙ sym (after-unmarked y o number 0 next)
 
 module _ (x : Exchange) (w : WellFormed x) (account contract lots buy sell : ℕ) (p : Passes24 x (offered account contract lots buy sell)) where
@@ -279,24 +253,21 @@ module _ (x : Exchange) (w : WellFormed x) (account contract lots buy sell : ℕ
   unfolding withBuy
   bought-alike = same-after gone gone refl (buyOf q) (gone .next) 1 (gone .next + 1)
 
-  gone-listings : length (gone .listings) ≡ length (x .listings)
-  unfolding withoutQuote
-  gone-listings = length-set (x .listings) spot _
-
   gone-there : spot < length (gone .listings)
-  gone-there = rw gone-listings (present contract (x .listings) (p .contract))
+  unfolding withoutQuote
+  gone-there = rw (length-set (x .listings) spot _) (present contract (x .listings) (p .contract))
 
   gone-contract : absent contract (gone .listings) ≡ false
-  unfolding absent
-  gone-contract = rw gone-listings (p .contract)
+  unfolding absent withoutQuote
+  gone-contract = rw (length-set (x .listings) spot _) (p .contract)
 
   gone-open : eqb (listingAt gone spot .contract .phase) continuous ≡ true
   unfolding withoutQuote listingAt
   gone-open = rw (getD-set-same (x .listings) spot (listingWithout (isQuoteOf (placeOf account)) (listingAt x spot)) noListing (present contract (x .listings) (p .contract))) (p .open′)
 
   buy-code : codeOf gone (Insert (buyOf q)) ≡ firstOf (orderRefusals gone (buyOf q))
-  unfolding half listingOf withoutQuote
-  buy-code = insert-code gone (buyOf q) (p .account) gone-contract gone-open
+  unfolding half listingOf withoutQuote codeOf kindOf insertRefusals firstOf takesOrders
+  buy-code = rw (p .account, gone-contract, gone-open) refl
 
   bought-account : absent account (bought .accounts) ≡ false
   unfolding absent exchangeAfter withoutQuote
@@ -312,8 +283,8 @@ module _ (x : Exchange) (w : WellFormed x) (account contract lots buy sell : ℕ
       rw (getD-set-same (gone .listings) spot (listingAfter (listingOf gone (buyOf q)) false (enteredOf gone (gone .next) 0 (buyOf q))) noListing gone-there) gone-open
 
   sell-code : codeOf bought (Insert (sellOf q)) ≡ firstOf (orderRefusals (withBuy x q) (sellOf q))
-  unfolding half listingOf
-  sell-code = insert-code bought (sellOf q) bought-account bought-contract bought-open ∙ ap firstOf (sym (same-refusals (withBuy x q) bought bought-alike (sellOf q)))
+  unfolding half listingOf codeOf kindOf insertRefusals firstOf takesOrders
+  sell-code = (rw (bought-account, bought-contract, bought-open) refl) ∙ ap firstOf (sym (same-refusals (withBuy x q) bought bought-alike (sellOf q)))
 
   -- ---- the code
 
@@ -337,16 +308,16 @@ module _ (x : Exchange) (w : WellFormed x) (account contract lots buy sell : ℕ
           ≡ pick b (firstOf (orderRefusals (withBuy x q) (sellOf q))) (firstOf (orderRefusals gone (buyOf q)))
       by-buy-code true e =
           ap (λ (y : Exchange). firstCode y (Insert (sellOf q) ∷ [])) (insert-step gone (buyOf q) (buy-code ∙ eqb-true _ 0 e))
-          ∙ none-or-it (codeOf bought (Insert (sellOf q)))
-          ∙ sell-code
+          ∙ none-or-it (codeOf bought (Insert (sellOf q))) ∙ sell-code
       by-buy-code false e = refl
 
   -- ---- the two inserts, where both are accepted
 
   both-accepted : codeOf x (Quote account contract lots buy sell) ≡ 0 → (codeOf gone (Insert (buyOf q)) ≡ 0) × (codeOf bought (Insert (sellOf q)) ≡ 0)
+  unfolding orderRefusals
   both-accepted e =
       let k = first-zero (firstOf (orderRefusals gone (buyOf q))) (firstOf (orderRefusals (withBuy x q) (sellOf q)))
-      (sym (first-append (orderRefusals gone (buyOf q)) (orderRefusals (withBuy x q) (sellOf q)) (order-coded gone (buyOf q))) ∙ sym quote-code ∙ e) in
+      (sym (first-append (orderRefusals gone (buyOf q)) (orderRefusals (withBuy x q) (sellOf q)) (omega arith)) ∙ sym quote-code ∙ e) in
       (buy-code ∙ k .0, sell-code ∙ k .1)
     where
       first-zero : (m n : ℕ) → pick (eqb m 0) n m ≡ 0 → (m ≡ 0) × (n ≡ 0)
@@ -385,10 +356,9 @@ module _ (x : Exchange) (w : WellFormed x) (account contract lots buy sell : ℕ
   told d e = answerOf 0 (gone .next) (tradedLots (d .trades) + tradedLots (e .trades)) (d .rested + e .rested)
 
   same-code : codeOf x (Quote account contract lots buy sell) ≡ firstCode x (ordersOf x q)
+  unfolding orderRefusals
   same-code =
-      quote-code
-      ∙ first-append (orderRefusals gone (buyOf q)) (orderRefusals (withBuy x q) (sellOf q)) (order-coded gone (buyOf q))
-      ∙ sym inserts-code
+      quote-code ∙ first-append (orderRefusals gone (buyOf q)) (orderRefusals (withBuy x q) (sellOf q)) (omega arith) ∙ sym inserts-code
       ∙ sym (cancels q (quoteLeft x q) x w p refl (insertsOf q) .0)
 
   module _ (e : codeOf x (Quote account contract lots buy sell) ≡ 0) where
@@ -400,14 +370,10 @@ module _ (x : Exchange) (w : WellFormed x) (account contract lots buy sell : ℕ
     same-state =
         ap withoutMarks quote-step ∙ sold-alike ∙ ap withoutMarks (sym (inserts-state e) ∙ sym (cancels q (quoteLeft x q) x w p refl (insertsOf q) .1))
 
-    quote-answer : decide x (Quote account contract lots buy sell) .answer ≡ told (plainEntered (buyEntered x q)) (plainEntered (sellEntered x q))
-    unfolding kindOf quoted withoutQuote
-    quote-answer = accepted-answer x (Quote account contract lots buy sell) e
-
     same-answer : decide x (Quote account contract lots buy sell) .answer ≡ summed (answered (beforeBuy x q) (buyOf q)) (answered (beforeSell x q) (sellOf q))
+    unfolding kindOf quoted withoutQuote decide
     same-answer =
-        quote-answer
-        ∙ ap (λ (d : Entered). told d (plainEntered (sellEntered x q))) (same-entered gone (gone .next) 1 (buyOf q))
+        rw e refl ∙ ap (λ (d : Entered). told d (plainEntered (sellEntered x q))) (same-entered gone (gone .next) 1 (buyOf q))
         ∙ ap (told (enteredOf gone (gone .next) 0 (buyOf q)))
         (ap (λ (n : ℕ). plainEntered (enteredOf (withBuy x q) n 1 (sellOf q))) same-next ∙ same-results (withBuy x q) bought bought-alike (sellOf q) (bought .next) 1)
         ∙ sym (ap (λ (a : Answer). summed a (answered (beforeSell x q) (sellOf q))) (ap (λ (y : Exchange). answered y (buyOf q)) before-buy ∙ insert-answer gone (buyOf q) (both-accepted e .0))
@@ -415,9 +381,4 @@ module _ (x : Exchange) (w : WellFormed x) (account contract lots buy sell : ℕ
 
 pub quote-as-orders : (x : Exchange) → wellFormedContents x ≡ true → (account contract lots buy sell : ℕ) → Passes24 x (offered account contract lots buy sell) →
     AsOrders x account contract lots buy sell
-quote-as-orders x h account contract lots buy sell p =
-    record {
-      code = same-code x (well-formed x h) account contract lots buy sell p;
-      answer = same-answer x (well-formed x h) account contract lots buy sell p;
-      state = same-state x (well-formed x h) account contract lots buy sell p;
-    }
+quote-as-orders x h account contract lots buy sell p = search (same-code, well-formed, same-answer, same-state) depth 12

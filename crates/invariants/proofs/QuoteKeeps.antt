@@ -1,14 +1,8 @@
 -- An accepted quote keeps a state well formed: what is left of the old quote is removed, so that the account has no marked order in the
 -- contract; the buy is entered, marked; the sell is entered, marked, on the state that the buy leaves. Assumes nothing.
-use mathlib.Core.Bool.{Bool, true, false}
-use mathlib.Core.List.{List, [], _∷_}
-use mathlib.Core.Path.{_≡_, refl, _∙_}
-use Prim.Native.Nat.{ℕ, _+_, _<_, _≤_}
-use native.Mathlib.Omega.{arith}
-use borrow.Author.Tests.{eqb-true, not-false}
-use lib.Dec.{eqb}
-use lib.ListN.{length, length-set}
-use lib.Seq.{getD-set-same}
+use borrow.Author.Needs.{needs}
+use Rattle.laws.specs.Logic.{Bool, true, false, List, [], _∷_, _≡_, refl, _∙_}
+use Rattle.laws.specs.Numbers.{ℕ, _+_, _<_, _≤_, arith, eqb-true, not-false, eqb, length, length-set, getD-set-same}
 use Rattle.laws.specs.Choice.{pick}
 use Rattle.laws.specs.Sums.{sumOf}
 use Rattle.rules.specs.Answers.{firstOf, listingOf, orderRefusals, takerOf}
@@ -75,11 +69,8 @@ module _ (x : Exchange) (w : WellFormed x) (q : Offered) (account-there : placeO
   gone-accounts = refl
 
   pub none-marked : (sell : Bool) → quotes account (own sell (listingAt (withoutQuote x q) place)) ≡ 0
-  none-marked sell = rw gone-listing (by-side sell)
-    where
-      by-side : (b : Bool) → quotes account (own b left) ≡ 0
-      by-side true = none-left account (listingAt x place .sells)
-      by-side false = none-left account (listingAt x place .buys)
+  none-marked sell = rw gone-listing
+      (elim sell [ false ↦ none-left account (listingAt x place .buys) | true ↦ none-left account (listingAt x place .sells) ])
 
   -- ---- the buy, which passes its tests
 
@@ -90,13 +81,7 @@ module _ (x : Exchange) (w : WellFormed x) (q : Offered) (account-there : placeO
 
     pub buy-enters : Enterable (withoutQuote x q) (withoutQuote x q .next) 1 (withoutQuote x q .next + 1) (buyOf q)
     unfolding half listingOf
-    buy-enters =
-        record {
-          formed = gone-keeps;
-          given = next-given (withoutQuote x q) gone-keeps (numbers-left (withoutQuote x q) (buyOf q) bought);
-          passes = buy-passes;
-          marks = record { low = omega arith; allowed = rw (gone-accounts, is-maker) refl; single = omega (arith, none-marked false) };
-        }
+    buy-enters = search (needs, gone-keeps, next-given, numbers-left, buy-passes, gone-accounts, none-marked) depth 12
 
     pub buy-keeps : WellFormed (withBuy x q)
     unfolding withBuy

@@ -1,16 +1,8 @@
 -- AT MOST ONE OF THE TWO ORDERS OF A QUOTE TRADES: where the buy meets a sell, every buy stands below that sell, and so below the quote's
 -- own sell, which then meets none. Assumes nothing.
-use mathlib.Core.Bool.{Bool, true, false}
-use mathlib.Core.List.{List, [], _∷_, _++_, append-nil}
-use mathlib.Core.Logic.{_⊎_, inl, inr, ⊎-elim}
-use mathlib.Core.Path.{_≡_, refl, ap, _∙_}
-use Prim.Native.Nat.{ℕ, zero, suc, _+_, _<_, _≤_}
-use native.Mathlib.Omega.{arith}
-use borrow.Author.Tests.{eqb-true, lt-leb, leb-true, ltb-true, not-false}
-use lib.Dec.{leb, ltb, eqb}
-use lib.ListN.{length}
-use lib.Seq.{getD-set-same}
-use Rattle.laws.specs.Choice.{pick}
+use Rattle.laws.specs.Logic.{Bool, true, false, List, [], _∷_, _++_, append-nil, _⊎_, ⊎-elim, inl, inr, _≡_, refl, ap, _∙_}
+use Rattle.laws.specs.Numbers.{ℕ, zero, suc, _+_, _<_, _≤_, arith, eqb-true, leb-true, ltb-true, lt-leb, not-false, eqb, leb, ltb, length, getD-set-same}
+use Rattle.laws.specs.Choice.{pick, by-test}
 use Rattle.rules.specs.Answers.{firstOf, listingOf, takerOf}
 use Rattle.rules.specs.Bounds.{auction, continuous, inAuction}
 use Rattle.rules.specs.Exchange.{Exchange, Listing, listingAt, noListing, placeOf, worse}
@@ -20,9 +12,7 @@ use Rattle.rules.specs.Quote.{Offered, buyEntered, buyOf, half, offered, quoteR
 use Rattle.rules.specs.Step.{exchangeAfter, listingAfter}
 use Rattle.rules.specs.WellFormed.{uncrossed}
 use Rattle.rules.specs.declared.Command.the-variants.{Quote}
-use Rattle.rules.specs.declared.Order.{Order}
-use Rattle.rules.specs.declared.Taker.{Taker}
-use Rattle.rules.specs.declared.Trade.{Trade}
+use Rattle.rules.specs.declared.{Order.Order, Taker.Taker, Trade.Trade}
 use Rattle.rules.proofs.AuctionSteps.{entered-elsewhere}
 use Rattle.rules.proofs.Stages.{decided}
 use Rattle.rules.proofs.Sweep.{sweep-end, sweep-unmet}
@@ -35,11 +25,7 @@ use Rattle.invariants.proofs.QuoteKeeps.{gone-keeps, gone-listing, gone
 -- a sweep trades nothing, or the first order that it meets is a counterpart
 none-or-met : (t : Taker) (left last : ℕ) (os : List Order) → (sweep t left last os .trades ≡ []) ⊎ ((p : Order) × ((ps : List Order) × ((os ≡ p ∷ ps) × (counterpart t p ≡ true))))
 none-or-met t left last [] = inl (rw (sweep-end t left last) refl)
-none-or-met t left last (p ∷ ps) = by-meeting (counterpart t p) refl
-  where
-    by-meeting : (b : Bool) → counterpart t p ≡ b → (sweep t left last (p ∷ ps) .trades ≡ []) ⊎ ((r : Order) × ((rs : List Order) × ((p ∷ ps ≡ r ∷ rs) × (counterpart t r ≡ true))))
-    by-meeting true e = inr (p, (ps, (refl, e)))
-    by-meeting false e = inl (rw (sweep-unmet t left last p ps e) refl)
+none-or-met t left last (p ∷ ps) = by-test (counterpart t p) (λ e. inr (p, (ps, (refl, e)))) (λ e. inl (rw (sweep-unmet t left last p ps e) refl))
 
 -- the first of these buys, if there is one, is at most at a price
 abbrev AtMost : ℕ → List Order → Type 0
@@ -107,10 +93,6 @@ module _ (x : Exchange) (w : WellFormed x) (q : Offered) (e : firstOf (quoteRefu
   abbrev buyer : Taker
   buyer = takerOf empty (empty .next) 1 (buyOf q)
 
-  buy-is : buyEntered x q ≡ enter buyer (q .lots) (q .buy) true (before .contract .last) (before .buys) (before .sells)
-  unfolding half listingOf
-  buy-is = entered-elsewhere empty (empty .next) 1 (buyOf q) no-auction
-
   -- ---- the sell
 
   abbrev between : Listing
@@ -123,10 +105,6 @@ module _ (x : Exchange) (w : WellFormed x) (q : Offered) (e : firstOf (quoteRefu
   abbrev seller : Taker
   seller = takerOf (withBuy x q) (withBuy x q .next) 1 (sellOf q)
 
-  buys-between : between .buys ≡ buyEntered x q .own
-  unfolding listingAfter
-  buys-between = ap (λ (l : Listing). l .buys) between-is
-
   no-auction-between : inAuction (between .contract) ≡ false
   unfolding listingAfter
   no-auction-between = ap (λ (l : Listing). inAuction (l .contract)) between-is ∙ no-auction
@@ -135,22 +113,18 @@ module _ (x : Exchange) (w : WellFormed x) (q : Offered) (e : firstOf (quoteRefu
   unfolding half listingOf enter
   sell-trades = ap (λ (r : Entered). r .trades) (entered-elsewhere (withBuy x q) (withBuy x q .next) 1 (sellOf q) no-auction-between)
 
-  buy-trades : buyEntered x q .trades ≡ sweep buyer (q .lots) (before .contract .last) (before .sells) .trades
-  unfolding enter
-  buy-trades = ap (λ (r : Entered). r .trades) buy-is
-
   -- where the buy meets a sell, no buy stands above it
   met-below : (p : Order) (ps : List Order) → before .sells ≡ p ∷ ps → counterpart buyer p ≡ true → AtMost (q .buy) (between .buys)
-  unfolding takerOf half meets enter
+  unfolding takerOf half meets enter listingAfter listingOf
   met-below p ps s c =
-      rw (buys-between, ap (λ (r : Entered). r .own) buy-is)
+      rw (ap (λ (l : Listing). l .buys) between-is, ap (λ (r : Entered). r .own) (entered-elsewhere empty (empty .next) 1 (buyOf q) no-auction))
       (rested-at-most buyer (q .buy) _ (before .buys) refl
       (below-met (q .buy) (before .buys) p ps (rw s at apart) (leb-true (p .price) (q .buy) c)))
 
   one : (buyEntered x q .trades ≡ []) ⊎ (sellEntered x q .trades ≡ [])
-  unfolding takerOf half meets
+  unfolding takerOf half meets enter listingOf
   one =
-      ⊎-elim (λ n. inl (buy-trades ∙ n))
+      ⊎-elim (λ n. inl (ap (λ (r : Entered). r .trades) (entered-elsewhere empty (empty .next) 1 (buyOf q) no-auction) ∙ n))
       (λ m. inr (sell-trades
       ∙ none-above seller (q .sell) (q .buy) (q .lots) (between .contract .last) (between .buys) (λ p. refl) below (met-below (m .0) (m .1 .0) (m .1 .1 .0) (m .1 .1 .1))))
       (none-or-met buyer (q .lots) (before .contract .last) (before .sells))

@@ -1,6 +1,5 @@
 -- The trades that a quote and a change record are those that they make. Of every command it is `trades-recorded` (`EachKind`). Assumes nothing.
-use mathlib.Core.List.{_++_, append-assoc, append-nil}
-use mathlib.Core.Path.{_≡_, refl, sym}
+use Rattle.laws.specs.Logic.{_++_, append-nil, append-assoc, _≡_, refl, sym}
 use Rattle.rules.specs.Change.{Asked, changeTrades, changed, gone, placeKept, placeLost, unchanged}
 use Rattle.rules.specs.Exchange.{Exchange}
 use Rattle.rules.specs.Kinds.{lastOf}

@@ -1,12 +1,7 @@
 -- A cancel and a pull keep the state well formed: orders are taken out of a contract's queues, and nothing else changes.
 -- Assumes nothing.
-use mathlib.Core.Bool.{Bool, true, false, _&&_}
-use mathlib.Core.List.{List, [], _∷_}
-use mathlib.Core.Path.{_≡_, refl}
-use Prim.Native.Nat.{ℕ, _+_, _<_, _≤_}
-use native.Mathlib.Omega.{arith}
-use lib.Dec.{eqb}
-use lib.ListN.{length}
+use Rattle.laws.specs.Logic.{Bool, true, false, _&&_, List, [], _∷_, _≡_, refl}
+use Rattle.laws.specs.Numbers.{ℕ, _+_, _<_, _≤_, arith, eqb, length}
 use Rattle.laws.specs.Choice.{pick, allOf, allOf-imp, both-true, true-both}
 use Rattle.laws.specs.Sums.{sumOf}
 use Rattle.rules.specs.Answers.{firstOf, cancelRefusals, pullRefusals}
@@ -14,9 +9,7 @@ use Rattle.rules.specs.Exchange.{Exchange, Listing, listingAt, placeOf, own, lo
 use Rattle.rules.specs.Kinds.{lastOf}
 use Rattle.rules.specs.Step.{without, listingWithout, hasNumber, isOf, removed, cancelled, pulled}
 use Rattle.rules.specs.WellFormed.{ahead, markAllowed, sorted, orderInRange}
-use Rattle.rules.specs.declared.Account.{Account}
-use Rattle.rules.specs.declared.Order.{Order}
-use Rattle.rules.specs.declared.Holding.{Holding}
+use Rattle.rules.specs.declared.{Account.Account, Holding.Holding, Order.Order}
 use Rattle.rules.proofs.Queue.{length-without}
 use Rattle.rules.proofs.Sorted.{sorted-tail}
 use Rattle.rules.proofs.Refusals.{failed, present}

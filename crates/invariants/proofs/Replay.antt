@@ -1,22 +1,14 @@
 -- The replay of a day's trades depends on lots alone: two lists of accounts with the same lots book the same trades to the same
 -- lots. Assumes nothing.
-use mathlib.Core.Bool.{Bool, true, false, false≢true}
-use mathlib.Core.List.{List, [], _∷_, map}
-use mathlib.Core.Path.{_≡_, refl, sym, ap, ap₂, _∙_}
-use Prim.Native.Nat.{ℕ, _+_, _-_}
-use native.Mathlib.Omega.{arith}
-use borrow.Author.Tests.{eqb-true, eq-eqb}
-use lib.Dec.{eqb}
 use lib.IntN.{pos}
-use lib.ListN.{length, getD, set, drop, List·getD-map}
+use Rattle.laws.specs.Logic.{Bool, true, false, false≢true, List, [], _∷_, map, _≡_, refl, sym, ap, ap₂, _∙_}
+use Rattle.laws.specs.Numbers.{ℕ, _+_, _-_, arith, eqb-true, eq-eqb, eqb, length, getD, set, drop, List·getD-map}
 use Rattle.laws.specs.Choice.{pick, both-true, true-both}
 use Rattle.laws.specs.Lists.{map-set}
 use Rattle.laws.specs.Chains.{all-passed, join}
 use Rattle.rules.specs.Exchange.{accountAt, holdingAt, noAccount, noHolding}
 use Rattle.rules.specs.Holdings.{withLong, withShort, afterLeg, bookLeg, bookBuyer, bookSeller, bookTrade, bookTrades, legCovered, neverBelowZero, sameLots, sameHoldings}
-use Rattle.rules.specs.declared.Account.{Account}
-use Rattle.rules.specs.declared.Holding.{Holding}
-use Rattle.rules.specs.declared.Trade.{Trade}
+use Rattle.rules.specs.declared.{Account.Account, Holding.Holding, Trade.Trade}
 
 -- ---- lots now, and nothing else
 
@@ -75,20 +67,15 @@ holdings-same (a ∷ as′) (b ∷ bs) e =
 
 -- ---- booking goes by lots
 
-account-lots : (accounts : List Account) (a : ℕ) → accountAt (lotsOnly accounts) a ≡ lotsOf (accountAt accounts a)
-unfolding accountAt lotsOnly
-account-lots accounts a = List·getD-map lotsOf accounts a noAccount
-
 holding-lots : (accounts : List Account) (a c : ℕ) → holdingAt (lotsOnly accounts) a c ≡ nowOnly (holdingAt accounts a c)
-unfolding holdingAt
-holding-lots accounts a c = rw (account-lots accounts a) (List·getD-map nowOnly (accountAt accounts a .holdings) c noHolding)
+unfolding holdingAt accountAt lotsOnly
+holding-lots accounts a c = rw (List·getD-map lotsOf accounts a noAccount) (List·getD-map nowOnly (accountAt accounts a .holdings) c noHolding)
 
 leg-lots : (h : Holding) (sell : Bool) (close lots : ℕ) → nowOnly (afterLeg h sell close lots) ≡ afterLeg (nowOnly h) sell close lots
 unfolding afterLeg
 leg-lots h sell close lots = by-leg sell (eqb close 0)
   where
-    by-leg : (s o : Bool) →
-        nowOnly (pick s (pick o (withShort h (h .short + lots)) (withLong h (h .long - lots)))
+    by-leg : (s o : Bool) → nowOnly (pick s (pick o (withShort h (h .short + lots)) (withLong h (h .long - lots)))
         (pick o (withLong h (h .long + lots)) (withShort h (h .short - lots))))
         ≡ pick s (pick o (withShort (nowOnly h) (h .short + lots)) (withLong (nowOnly h) (h .long - lots)))
         (pick o (withLong (nowOnly h) (h .long + lots)) (withShort (nowOnly h) (h .short - lots)))
@@ -99,10 +86,10 @@ leg-lots h sell close lots = by-leg sell (eqb close 0)
 
 module _ (accounts : List Account) (a c : ℕ) (sell : Bool) (close lots : ℕ) where
   book-lots : lotsOnly (bookLeg accounts a c sell close lots) ≡ bookLeg (lotsOnly accounts) a c sell close lots
-  unfolding bookLeg lotsOnly
+  unfolding bookLeg lotsOnly accountAt
   book-lots =
       map-set lotsOf accounts a _
-      ∙ rw (account-lots accounts a, holding-lots accounts a c, ← leg-lots (holdingAt accounts a c) sell close lots)
+      ∙ rw (List·getD-map lotsOf accounts a noAccount, holding-lots accounts a c, ← leg-lots (holdingAt accounts a c) sell close lots)
       (ap (λ (hs : List Holding). set (map lotsOf accounts) a (record { balance = pos 0; maker = 0; holdings = hs }))
       (map-set nowOnly (accountAt accounts a .holdings) c (afterLeg (holdingAt accounts a c) sell close lots)))
 

@@ -1,27 +1,18 @@
 -- WHAT MAY HAPPEN TO A RESTING ORDER: the theorems in the words of specs/RestingOrders.antt. Assumes nothing.
-use mathlib.Core.Bool.{Bool, true, false, not, _&&_, _||_}
-use mathlib.Core.List.{List, [], _∷_, _++_}
-use mathlib.Core.Path.{_≡_, refl, sym, ap, _∙_, subst}
-use Prim.Native.Nat.{ℕ, _≤_, _<_}
-use native.Mathlib.Omega.{arith}
-use borrow.Author.Tests.{eqb-true, lt-ltb, ltb-false, ltb-true}
-use lib.Dec.{eqb, ltb}
-use lib.ListN.{length, List·getD-eq-default}
-use Rattle.laws.specs.Choice.{allOf, allOf-imp, both-true, pick-either, pick-same, true-both}
+use lib.ListN.{List·getD-eq-default}
+use Rattle.laws.specs.Logic.{Bool, true, false, not, _&&_, _||_, List, [], _∷_, _++_, _≡_, refl, sym, ap, subst, _∙_}
+use Rattle.laws.specs.Numbers.{ℕ, _<_, _≤_, arith, eqb-true, ltb-true, ltb-false, lt-ltb, eqb, ltb, length}
+use Rattle.laws.specs.Choice.{allOf, allOf-imp, both-true, pick-either, pick-same, true-both, by-test}
 use Rattle.laws.specs.Sums.{sumOf}
-use Rattle.rules.specs.Answers.{ownerRefusals, restingOrder}
 use Rattle.rules.specs.Command.{accountField, isSettle}
 use Rattle.rules.specs.Exchange.{Exchange, Listing, listingAt, listingNamed, noListing, own, placeOf, worse}
 use Rattle.rules.specs.Kinds.{codeOf, kindOf, step}
 use Rattle.rules.specs.Step.{cancelled, hasNumber, isOf, listingWithout, removed, withListing}
 use Rattle.rules.specs.Touches.{names, ordersOf, ordersWhere}
 use Rattle.rules.specs.WellFormed.{ahead, aheadOfFirst, numberOf, orderInRange, sorted, wellFormedContents}
-use Rattle.rules.specs.declared.Command.{Command}
+use Rattle.rules.specs.declared.{Command.Command, Contract.Contract, Order.Order}
 use Rattle.rules.specs.declared.Command.the-variants.{Cancel}
-use Rattle.rules.specs.declared.Contract.{Contract}
-use Rattle.rules.specs.declared.Order.{Order}
 use Rattle.rules.proofs.AuctionUncrossed.{hasLots}
-use Rattle.rules.proofs.Refusals.{Failed}
 use Rattle.rules.proofs.Sorted.{AllBehind, Behind, behind-ahead, behind-antisym, sorted-behind, sorted-tail}
 use Rattle.rules.proofs.Touches.{accepted-step, contract-there, queues-alone, relisted}
 use Rattle.invariants.proofs.Clauses.{OrderOk, Sound, WellFormed, order-ok, well-formed}
@@ -41,23 +32,16 @@ module _ (x : Exchange) (w : wellFormedContents x ≡ true) (account contract : 
   abbrev left : Listing
   left = listingWithout (hasNumber number) (listingNamed x contract)
 
-  owner-failed : codeOf x cancels ≡ 0 → Failed (ownerRefusals (placeOf account) (restingOrder (listingNamed x contract) number))
-  unfolding codeOf kindOf
-  owner-failed e = cancel-owner x account contract operator number e
-
-  cancel-step : codeOf x cancels ≡ 0 → step x cancels ≡ withListing x (placeOf contract) left
-  unfolding kindOf cancelled removed
-  cancel-step e = accepted-step x cancels e
-
   cancel-there : codeOf x cancels ≡ 0 → placeOf contract < length (x .listings)
   cancel-there e = contract-there x cancels contract refl e
 
   pub cancel-takes-one : codeOf x cancels ≡ 0 → CancelTakesOne x account contract number (step x cancels)
+  unfolding codeOf kindOf cancelled removed
   cancel-takes-one e =
-      let f = owner-failed e in
+      let f = cancel-owner x account contract operator number e in
       let g = one-goes number account (listingNamed x contract) (once-in x (well-formed x w) (placeOf contract) number) (f .0) (f .1 .0) in
       let now : listingNamed (withListing x (placeOf contract) left) contract ≡ left = relisted x (placeOf contract) left (cancel-there e) in
-      rw (cancel-step e)
+      rw (accepted-step x cancels e)
       record {
         sell = g .0;
         gone = rw now (g .1);
@@ -70,11 +54,9 @@ module _ (x : Exchange) (w : wellFormedContents x ≡ true) (account contract : 
 module _ (x : Exchange) (w : WellFormed x) where
   at-any : (P : Listing → Type 0) → P noListing → ((c : ℕ) → c < length (x .listings) → P (listingAt x c)) → (c : ℕ) → P (listingAt x c)
   unfolding listingAt
-  at-any P none some c = by-place (ltb c (length (x .listings))) refl
-    where
-      by-place : (b : Bool) → ltb c (length (x .listings)) ≡ b → P (listingAt x c)
-      by-place true e = some c (ltb-true c (length (x .listings)) e)
-      by-place false e = rw (List·getD-eq-default (x .listings) noListing (ltb-false c (length (x .listings)) e)) none
+  at-any P none some c =
+      by-test (ltb c (length (x .listings))) (λ e. some c (ltb-true c (length (x .listings)) e))
+      (λ e. rw (List·getD-eq-default (x .listings) noListing (ltb-false c (length (x .listings)) e)) none)
 
   all-resting : (test : Order → Bool) → ((terms : Contract) (o : Order) → OrderOk (length (x .accounts)) (x .next) (x .nextstamp) terms o → test o ≡ true) →
       (c : ℕ) (sell : Bool) → allOf test (own sell (listingAt x c)) ≡ true

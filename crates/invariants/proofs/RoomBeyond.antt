@@ -1,20 +1,15 @@
 -- What a caller may rely on whatever lies in the memory past the counts: a refusal changes nothing, and room beyond a count affects no
 -- answer. Assumes nothing.
-use mathlib.Core.Bool.{Bool, true, false}
-use mathlib.Core.List.{List, [], _∷_}
-use mathlib.Core.Path.{_≡_, refl, sym, ap, ap₂, subst, _∙_}
-use Prim.Native.Nat.{ℕ, _<_}
-use lib.Dec.{leb}
-use lib.ListN.{length, getD}
-use Rattle.laws.specs.Choice.{pick, all, all-ext}
+use Rattle.laws.specs.Logic.{Bool, true, false, List, [], _∷_, _≡_, refl, sym, ap, ap₂, subst, _∙_}
+use Rattle.laws.specs.Numbers.{ℕ, _<_, leb, length, getD}
+use Rattle.laws.specs.Choice.{pick, all, all-ext, by-test}
 use Rattle.rules.specs.Bounds.{maxResting}
 use Rattle.rules.specs.Condition3.{run}
 use Rattle.rules.specs.Exchange.{Exchange, Listing, listingAt}
 use Rattle.rules.specs.Kinds.{decide, step}
 use Rattle.rules.specs.Memory.{Memory, countsInRange, exchangeOf, hasRoom, inMemory, listingIn, put, putState, respond, stepIn, wellFormedMemory, written}
 use Rattle.rules.specs.Step.{answerOf}
-use Rattle.rules.specs.declared.Command.{Command}
-use Rattle.rules.specs.declared.Order.{Order}
+use Rattle.rules.specs.declared.{Command.Command, Order.Order}
 use Rattle.rules.proofs.Codecs.{length-queue, length-trades}
 use Rattle.rules.proofs.InUse.{contracts-in-use, listing-in-use}
 use Rattle.rules.proofs.Stages.{decided}
@@ -34,11 +29,7 @@ step-refused m c =
 -- A REFUSAL CHANGES NOTHING: whatever the state and its areas hold, well formed or not
 pub refusal-changes-nothing : (m : Memory) (c : Command) → (respond m c .answer .code ≡ 0 → ⊥) → respond m c ≡ unchanged m (respond m c .answer .code)
 unfolding respond
-refusal-changes-nothing m c = by-wellformed (wellFormedMemory m) refl
-  where
-    by-wellformed : (t : Bool) → wellFormedMemory m ≡ t → (respond m c .answer .code ≡ 0 → ⊥) → respond m c ≡ unchanged m (respond m c .answer .code)
-    by-wellformed true w = rw w (step-refused m c)
-    by-wellformed false w = rw w (λ h. refl)
+refusal-changes-nothing m c = by-test (wellFormedMemory m) (λ w. rw w (step-refused m c)) (λ w. rw w (λ h. refl))
 
 -- ---- "Room beyond a count affects no answer"
 
@@ -49,9 +40,6 @@ module _ (m n : Memory) (s : AgreeInUse m n) where
   trades-counted : (m : Memory) → length (exchangeOf m .trades) ≡ m .state .tradecount
   unfolding exchangeOf
   trades-counted m = length-trades (m .trades) (m .state .tradecount)
-
-  same-trades : m .state .tradecount ≡ n .state .tradecount
-  same-trades = sym (trades-counted m) ∙ ap (λ (x : Exchange). length (x .trades)) (s .contents) ∙ trades-counted n
 
   same-listing : (c : ℕ) → c < m .state .contractcount → listingIn m c ≡ listingIn n c
   same-listing c h =
@@ -76,7 +64,7 @@ module _ (m n : Memory) (s : AgreeInUse m n) where
   unfolding countsInRange
   same-counts =
       rw (few (λ l. l .buys) (λ m. m .state .buycounts) buys-counted, few (λ l. l .sells) (λ m. m .state .sellcounts) sells-counted)
-      (rw (same-contracts, s .accounts, same-trades) refl)
+      (rw (same-contracts, s .accounts, sym (trades-counted m) ∙ ap (λ (x : Exchange). length (x .trades)) (s .contents) ∙ trades-counted n) refl)
 
   -- both are well formed, or neither
   same-test : wellFormedMemory m ≡ wellFormedMemory n
@@ -91,11 +79,7 @@ written-accounts m (x ∷ xs) = written-accounts (put m x) xs
 
 accounts-stay : (m : Memory) (c : Command) → respond m c .memory .state .accountcount ≡ m .state .accountcount
 unfolding respond stepIn
-accounts-stay m c = by-wellformed (wellFormedMemory m) refl
-  where
-    by-wellformed : (t : Bool) → wellFormedMemory m ≡ t → respond m c .memory .state .accountcount ≡ m .state .accountcount
-    by-wellformed true w = rw w (written-accounts m (decide (exchangeOf m) c .stages))
-    by-wellformed false w = rw w refl
+accounts-stay m c = by-test (wellFormedMemory m) (λ w. rw w (written-accounts m (decide (exchangeOf m) c .stages))) (λ w. rw w refl)
 
 unmoved : (m : Memory) (c : Command) → wellFormedMemory m ≡ false → respond m c .memory ≡ m
 unfolding respond
@@ -104,18 +88,13 @@ unmoved m c w = rw w refl
 -- the answer, by the test and by what is in use
 answer-by : (m : Memory) (c : Command) → respond m c .answer ≡ pick (wellFormedMemory m) (decide (exchangeOf m) c .answer) (answerOf 21 0 0 0)
 unfolding respond stepIn
-answer-by m c = by-wellformed (wellFormedMemory m) refl
-  where
-    by-wellformed : (t : Bool) → wellFormedMemory m ≡ t → respond m c .answer ≡ pick (wellFormedMemory m) (decide (exchangeOf m) c .answer) (answerOf 21 0 0 0)
-    by-wellformed true w = rw w refl
-    by-wellformed false w = rw w refl
+answer-by m c = by-test (wellFormedMemory m) (λ w. rw w refl) (λ w. rw w refl)
 
 module _ (m n : Memory) (s : AgreeInUse m n) (c : Command) where
   -- one command: the same answer
   one-answer : respond m c .answer ≡ respond n c .answer
   one-answer =
-      answer-by m c
-      ∙ ap₂ (λ (t : Bool) (x : Exchange). pick t (decide x c .answer) (answerOf 21 0 0 0)) (same-test m n s) (s .contents)
+      answer-by m c ∙ ap₂ (λ (t : Bool) (x : Exchange). pick t (decide x c .answer) (answerOf 21 0 0 0)) (same-test m n s) (s .contents)
       ∙ sym (answer-by n c)
 
   kept-room : (m : Memory) → wellFormedMemory m ≡ true → hasRoom (respond m c .memory) ≡ true
@@ -123,19 +102,16 @@ module _ (m n : Memory) (s : AgreeInUse m n) (c : Command) where
 
   -- .. and memories that agree in use
   still-agree : AgreeInUse (respond m c .memory) (respond n c .memory)
-  still-agree = by-wellformed (wellFormedMemory m) refl
-    where
-      by-wellformed : (t : Bool) → wellFormedMemory m ≡ t → AgreeInUse (respond m c .memory) (respond n c .memory)
-      by-wellformed true w =
-          let v : wellFormedMemory n ≡ true = sym (same-test m n s) ∙ w in
-          record {
-            accounts = accounts-stay m c ∙ s .accounts ∙ sym (accounts-stay n c);
-            contents = read-back m c w ∙ ap (λ (x : Exchange). step x c) (s .contents) ∙ sym (read-back n c v);
-            room = kept-room m w ∙ sym (kept-room n v);
-          }
-      by-wellformed false w =
-          let v : wellFormedMemory n ≡ false = sym (same-test m n s) ∙ w in
-          rw (unmoved m c w, unmoved n c v) s
+  still-agree =
+      by-test (wellFormedMemory m)
+      (λ w. let v : wellFormedMemory n ≡ true = sym (same-test m n s) ∙ w in
+      record {
+        accounts = accounts-stay m c ∙ s .accounts ∙ sym (accounts-stay n c);
+        contents = read-back m c w ∙ ap (λ (x : Exchange). step x c) (s .contents) ∙ sym (read-back n c v);
+        room = kept-room m w ∙ sym (kept-room n v);
+      })
+      (λ w. let v : wellFormedMemory n ≡ false = sym (same-test m n s) ∙ w in
+      rw (unmoved m c w, unmoved n c v) s)
 
 -- ROOM BEYOND A COUNT AFFECTS NO ANSWER: after any list of commands the two agree in use, and any further command gets one answer
 pub run-agrees : (m n : Memory) → AgreeInUse m n → (cs : List Command) → AgreeInUse (run m cs) (run n cs)

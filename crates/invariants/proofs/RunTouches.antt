@@ -1,11 +1,7 @@
 -- WHAT COMMANDS MAY TOUCH, of the memory that a call leaves and of a run: the theorems in the words of specs/RunTouches.antt. Assumes nothing.
-use mathlib.Core.Bool.{Bool, true, false, not, _&&_, true≢false, false≢true}
-use mathlib.Core.List.{List, [], _∷_, _++_, append-assoc}
-use mathlib.Core.Path.{_≡_, refl, sym, ap, _∙_, subst⁻¹}
-use Prim.Native.Nat.{ℕ}
-use borrow.Author.Tests.{eq-eqb, ne-eqb, not-true}
-use lib.ListN.{getD, set, List·getD-map}
-use Rattle.laws.specs.Choice.{allOf, both-true, true-both}
+use Rattle.laws.specs.Logic.{Bool, true, false, not, _&&_, true≢false, false≢true, List, [], _∷_, _++_, append-assoc, _≡_, refl, sym, ap, subst⁻¹, _∙_}
+use Rattle.laws.specs.Numbers.{ℕ, eq-eqb, ne-eqb, not-true, getD, set, List·getD-map}
+use Rattle.laws.specs.Choice.{allOf, both-true, true-both, by-test}
 use Rattle.laws.specs.Lists.{map-set}
 use Rattle.rules.specs.Command.{accountField, contractField, isPayment, isSettle}
 use Rattle.rules.specs.Condition3.{isAccepted, run}
@@ -14,10 +10,7 @@ use Rattle.rules.specs.Holdings.{afterLeg, bookBuyer, bookLeg, bookTrade, bookT
 use Rattle.rules.specs.Kinds.{codeOf, step}
 use Rattle.rules.specs.Memory.{Memory, exchangeOf, respond, wellFormedMemory}
 use Rattle.rules.specs.Touches.{BalanceStays, ContractStays, HeldByTrades, holdingsOf, names}
-use Rattle.rules.specs.declared.Account.{Account}
-use Rattle.rules.specs.declared.Command.{Command}
-use Rattle.rules.specs.declared.Holding.{Holding}
-use Rattle.rules.specs.declared.Trade.{Trade}
+use Rattle.rules.specs.declared.{Account.Account, Command.Command, Holding.Holding, Trade.Trade}
 use Rattle.rules.proofs.Holdings.{bookTrades-append}
 use Rattle.rules.proofs.Touches.{blank-is-refused, held-same, money-stays, other-contract-stays}
 use Rattle.accounting.proofs.Runs.{accepted-is, never-accepted, run-stays}
@@ -41,12 +34,7 @@ module _ (m : Memory) (c : Command) where
 
   pub refused-leaves-memory : RefusedLeavesMemory m c
   unfolding run
-  refused-leaves-memory =
-      record {
-        unchanged = refused-memory;
-        again = λ r. ap (λ (n : Memory). respond n c) (refused-memory r);
-        omitted = λ r cs. ap (λ (n : Memory). run n cs) (refused-memory r);
-      }
+  refused-leaves-memory = search refused-memory depth 12
 
   -- ---- 2. blank
 
@@ -58,11 +46,7 @@ module _ (m : Memory) (c : Command) where
       }
     where
       refuses : (codeOf (exchangeOf m) c ≡ 0 → ⊥) → isAccepted m c ≡ false
-      refuses r = by-wellformed (wellFormedMemory m) refl
-        where
-          by-wellformed : (t : Bool) → wellFormedMemory m ≡ t → isAccepted m c ≡ false
-          by-wellformed true w = accepted-is m c w ∙ ne-eqb (codeOf (exchangeOf m) c) 0 r
-          by-wellformed false w = never-accepted m c w
+      refuses r = by-test (wellFormedMemory m) (λ w. accepted-is m c w ∙ ne-eqb (codeOf (exchangeOf m) c) 0 r) (λ w. never-accepted m c w)
 
 -- ---- a relation that holds from each well-formed state to the next, of commands that pass a test, holds from the start of a run to its end
 
@@ -76,11 +60,7 @@ module _ (R : Exchange → Exchange → Type 0) (same : (x : Exchange) → R x x
       more (exchangeOf m) (exchangeOf (respond m c .memory)) (exchangeOf (run (respond m c .memory) cs)) (subst⁻¹ (R (exchangeOf m)) (read-back m c w) (holds (exchangeOf m) c (sound m w) (p .0))) (formed-run (respond m c .memory) (memory-keeps m c w) cs (p .1))
 
   pub over-a-run : (m : Memory) (cs : List Command) → allOf test cs ≡ true → R (exchangeOf m) (exchangeOf (run m cs))
-  over-a-run m cs h = by-wellformed (wellFormedMemory m) refl
-    where
-      by-wellformed : (t : Bool) → wellFormedMemory m ≡ t → R (exchangeOf m) (exchangeOf (run m cs))
-      by-wellformed true w = formed-run m w cs h
-      by-wellformed false w = rw (run-stays m w cs) (same (exchangeOf m))
+  over-a-run m cs h = by-test (wellFormedMemory m) (λ w. formed-run m w cs h) (λ w. rw (run-stays m w cs) (same (exchangeOf m)))
 
 -- of two tests that all commands of a list pass
 both-tests : (p q : Command → Bool) (cs : List Command) → allOf p cs ≡ true → allOf q cs ≡ true → allOf (λ c. p c && q c) cs ≡ true
@@ -94,8 +74,7 @@ both-tests p q (c ∷ cs) h k =
 -- ---- trades booked over a run
 
 -- what trades do to holdings goes by the holdings alone
-leg-holdings : (l : List Account) (a c : ℕ) (sell : Bool) (close lots : ℕ) →
-    holdingsOf (bookLeg l a c sell close lots)
+leg-holdings : (l : List Account) (a c : ℕ) (sell : Bool) (close lots : ℕ) → holdingsOf (bookLeg l a c sell close lots)
     ≡ set (holdingsOf l) a (set (getD (holdingsOf l) a []) c (afterLeg (getD (getD (holdingsOf l) a []) c noHolding) sell close lots))
 unfolding bookLeg holdingAt accountAt
 leg-holdings l a c sell close lots =

@@ -1,14 +1,10 @@
 -- WHAT A COMMAND ANSWERS AND DOES WHERE BALANCES ARE BLOTTED OUT that are not its own account's: the same, those balances aside. The rules
 -- read of another account what it holds and its maker mark; only the money tests read a balance, and that of the command's account. Assumes
 -- nothing.
-use mathlib.Core.Bool.{Bool, true, false, not, _&&_, _||_}
-use mathlib.Core.List.{List, [], _∷_, _++_, map}
-use mathlib.Core.Path.{_≡_, refl, sym, ap, ap₂, _∙_}
-use Prim.Native.Nat.{ℕ, zero, suc, _+_, _*_}
-use lib.Dec.{eqb, ltb}
 use lib.IntN.{ℤ, pos, _+ℤ_, _-ℤ_, _*ℤ_}
-use lib.ListN.{length, getD, set}
 use lib.Signed.{ltZ}
+use Rattle.laws.specs.Logic.{Bool, true, false, not, _&&_, _||_, List, [], _∷_, _++_, map, _≡_, refl, sym, ap, ap₂, _∙_}
+use Rattle.laws.specs.Numbers.{ℕ, zero, suc, _+_, _*_, eqb, ltb, length, getD, set}
 use Rattle.laws.specs.Choice.{pick, pick-same}
 use Rattle.laws.specs.Sums.{sumTo-ext}
 use Rattle.laws.specs.Tabulate.{tabulate}
@@ -24,14 +20,8 @@ use Rattle.rules.specs.Matching.{Entered, tradedLots}
 use Rattle.rules.specs.Quote.{Offered, afterMarked, buyOf, enteredMarked, half, quoteRefusals, quoted, sellOf, withBuy, withSell, withoutQuote}
 use Rattle.rules.specs.Settlement.{Day, afterLegs, carriedHolding, closingProfit, dayOf, dayStart, holdingGain, holdingProfit, legs, settled, settledAccount, settledListing, settlementPrice}
 use Rattle.rules.specs.Step.{Effect, answerOf, cancelled, deposited, enteredOf, exchangeAfter, exchangeMatched, hasNumber, inserted, isOf, listingAfter, paid, phaseChanged, pulled, removed, settledAll, withBalance, withTrades, withdrawn}
-use Rattle.rules.specs.declared.Account.{Account}
-use Rattle.rules.specs.declared.Command.{Command}
+use Rattle.rules.specs.declared.{Account.Account, Command.Command, Contract.Contract, Holding.Holding, NewOrder.NewOrder, Order.Order, Trade.Trade}
 use Rattle.rules.specs.declared.Command.the-variants.{Deposit, Withdraw, Insert, Cancel, Pull, Phase, Settle}
-use Rattle.rules.specs.declared.Contract.{Contract}
-use Rattle.rules.specs.declared.Holding.{Holding}
-use Rattle.rules.specs.declared.NewOrder.{NewOrder}
-use Rattle.rules.specs.declared.Order.{Order}
-use Rattle.rules.specs.declared.Trade.{Trade}
 use Rattle.invariants.specs.Accounts.{accountsSeen, stateSeen}
 
 -- ---- accounts
@@ -89,13 +79,11 @@ module _ (seen : ℕ → Bool) (l : List Account) where
   seen-leg : (a c : ℕ) (sell : Bool) (close lots : ℕ) → accountsSeen seen (bookLeg l a c sell close lots) ≡ bookLeg (accountsSeen seen l) a c sell close lots
   unfolding bookLeg
   seen-leg a c sell close lots =
-      seen-set seen l a _
-      ∙ ap (set (accountsSeen seen l) a)
+      seen-set seen l a _ ∙ ap (set (accountsSeen seen l) a)
       (by-seen (seen a)
       ∙ ap₂ (λ (k : Account) (h : Holding). withHolding k c (afterLeg h sell close lots)) (sym (seen-at seen l a)) (sym (seen-holding a c)))
     where
-      by-seen : (shown : Bool) →
-          blotted shown (withHolding (accountAt l a) c (afterLeg (holdingAt l a c) sell close lots))
+      by-seen : (shown : Bool) → blotted shown (withHolding (accountAt l a) c (afterLeg (holdingAt l a c) sell close lots))
           ≡ withHolding (blotted shown (accountAt l a)) c (afterLeg (holdingAt l a c) sell close lots)
       by-seen true = refl
       by-seen false = refl
@@ -424,16 +412,12 @@ module _ (seen : ℕ → Bool) where
       as-left (exchangeAfter (gone x k) (arriving x k) (reentered x k) (x .next)) _ (seen-after seen (gone x k) (arriving x k) (reentered x k) (x .next)),
     )
 
-    kept-same : SameEffect (placeKept shown k) (placeKept x k)
-    unfolding placeKept stateSeen listingAt
-    kept-same = (refl, state-twice seen (lastOf x (placeKept x k .stages)))
-
     either-same : (zeroed lost equal : Bool) → SameEffect (either shown zeroed lost equal) (either x zeroed lost equal)
-    unfolding cancelled unchanged
+    unfolding cancelled unchanged placeKept stateSeen listingAt
     either-same true lost equal = same-removal x (placeOf (k .contract)) (hasNumber (k .number)) (k .number)
     either-same false true equal = lost-same
     either-same false false true = (refl, state-twice seen x)
-    either-same false false false = kept-same
+    either-same false false false = (refl, state-twice seen (lastOf x (placeKept x k .stages)))
 
     pub change-same : SameEffect (changed shown k) (changed x k)
     unfolding changed losesPlace oldOrder stateSeen listingAt

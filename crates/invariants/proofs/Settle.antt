@@ -1,13 +1,7 @@
 -- A settlement keeps a state well formed: its price is a tick multiple, holdings become starting ones, and each balance takes a
 -- day's profit, which accounting bounds. Assumes nothing.
-use mathlib.Core.Bool.{Bool, true, false, _&&_}
-use mathlib.Core.List.{List, [], _∷_, map}
-use mathlib.Core.Path.{_≡_, refl, ap}
-use Prim.Native.Nat.{ℕ, _+_, _<_, _≤_}
-use native.Mathlib.Omega.{arith}
-use borrow.Author.Tests.{leb-false, le-leb, eqb-true}
-use lib.Dec.{leb, eqb}
-use lib.ListN.{length, getD, List·getD-map}
+use Rattle.laws.specs.Logic.{Bool, true, false, _&&_, List, [], _∷_, map, _≡_, refl, ap}
+use Rattle.laws.specs.Numbers.{ℕ, _+_, _<_, _≤_, arith, eqb-true, leb-false, le-leb, eqb, leb, length, getD, List·getD-map}
 use Rattle.laws.specs.Choice.{pick, allOf, allOf-imp, both-true, true-both}
 use Rattle.laws.specs.Sums.{sumOf}
 use Rattle.laws.specs.Chains.{all-passed, join}
@@ -20,10 +14,7 @@ use Rattle.rules.specs.Kinds.{lastOf}
 use Rattle.rules.specs.Settlement.{tradesIn, quotedPrice, priceFrom, settlementPrice, carriedHolding, settledAccount, settledContract, settledListing, settled}
 use Rattle.rules.specs.Step.{settledAll}
 use Rattle.rules.specs.WellFormed.{contractInRange, orderInRange, tradeInRange}
-use Rattle.rules.specs.declared.Contract.{Contract}
-use Rattle.rules.specs.declared.Holding.{Holding}
-use Rattle.rules.specs.declared.Order.{Order}
-use Rattle.rules.specs.declared.Trade.{Trade}
+use Rattle.rules.specs.declared.{Contract.Contract, Holding.Holding, Order.Order, Trade.Trade}
 use Rattle.rules.proofs.Prices.{middle-any}
 use Rattle.rules.proofs.Terms.{Terms, terms, terms-test, Multiple}
 use Rattle.rules.proofs.Refusals.{failed}

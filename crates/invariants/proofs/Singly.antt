@@ -1,13 +1,7 @@
 -- The orders of a queue that satisfy a test, taken out one by one by their numbers: where numbers are used once, that is the queue without
 -- the orders that satisfy it. Assumes nothing.
-use mathlib.Core.Bool.{Bool, true, false, _&&_, not, true≢false}
-use mathlib.Core.List.{List, [], _∷_, _++_}
-use mathlib.Core.Path.{_≡_, refl, sym, ap, _∙_}
-use Prim.Native.Nat.{ℕ, _+_, _≤_}
-use native.Mathlib.Omega.{arith}
-use borrow.Author.Tests.{eqb-true, eqb-false, eq-eqb, ne-eqb}
-use lib.Dec.{eqb}
-use lib.ListN.{length}
+use Rattle.laws.specs.Logic.{Bool, true, false, not, _&&_, true≢false, List, [], _∷_, _++_, _≡_, refl, sym, ap, _∙_}
+use Rattle.laws.specs.Numbers.{ℕ, _+_, _≤_, arith, eqb-true, eqb-false, eq-eqb, ne-eqb, eqb, length}
 use Rattle.laws.specs.Choice.{pick, allOf, both-true, true-both}
 use Rattle.laws.specs.Sums.{sumOf}
 use Rattle.rules.specs.Answers.{noSuchOrder, numbered, ofAnother}
@@ -195,8 +189,7 @@ module _ (test : Order → Bool) where
     pub others-left : (L : List Order) → only test L ≡ o ∷ os → uses numberOf (o .number) L ≤ 1 → only test (without (hasNumber (o .number)) L) ≡ os
     unfolding without
     others-left L e h =
-        only-without (o .number) L
-        ∙ ap (without (hasNumber (o .number))) e
+        only-without (o .number) L ∙ ap (without (hasNumber (o .number))) e
         ∙ rw (eq-eqb (o .number) (o .number) refl) (unused-stay (o .number) os none)
       where
         none : uses numberOf (o .number) os ≡ 0

@@ -1,14 +1,7 @@
 -- Sorted queues: an order stands ahead of all behind it, so taking orders out keeps the order, and a later order goes in at its
 -- place. Assumes nothing.
-use mathlib.Core.Bool.{Bool, true, false, _&&_, _||_}
-use mathlib.Core.List.{List, [], _∷_}
-use mathlib.Core.Logic.{⊎-elim}
-use mathlib.Core.Path.{_≡_, refl, sym}
-use Prim.Native.Nat.{ℕ, _+_, _<_, _≤_}
-use native.Mathlib.Nat.{eq-or-lt-of-le}
-use native.Mathlib.Omega.{arith}
-use borrow.Author.Tests.{eqb-true, eq-eqb, ltb-true, ltb-false, lt-ltb}
-use lib.Dec.{eqb, ltb}
+use Rattle.laws.specs.Logic.{Bool, true, false, _&&_, _||_, List, [], _∷_, ⊎-elim, _≡_, refl, sym}
+use Rattle.laws.specs.Numbers.{ℕ, _+_, _<_, _≤_, eq-or-lt-of-le, arith, eqb-true, ltb-true, ltb-false, eq-eqb, lt-ltb, eqb, ltb}
 use Rattle.laws.specs.Choice.{pick, allOf, allOf-imp, both-true, true-both, true-either, either-true}
 use Rattle.laws.specs.Sums.{sumOf}
 use Rattle.rules.specs.Exchange.{worse}

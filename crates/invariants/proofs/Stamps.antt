@@ -1,16 +1,9 @@
 -- Which orders may rest after a command, and with which time stamps: those that rested before with their numbers and time stamps, and those
 -- that it enters. What each kind enters stands in `EachKind`. Where every time stamp is the order's number, price and time stamp are price
 -- and number. Assumes nothing.
-use mathlib.Core.Bool.{Bool, true, false, _&&_, _||_, false≢true}
-use mathlib.Core.List.{List, [], _∷_}
-use mathlib.Core.Path.{_≡_, refl, sym, _∙_}
-use Prim.Native.Nat.{ℕ, zero, suc, _+_, _≤_}
-use native.Mathlib.Nat.{le-refl}
-use native.Mathlib.Omega.{arith}
-use borrow.Author.Tests.{eqb-true, eq-eqb}
-use lib.Dec.{eqb, ltb}
-use lib.ListN.{getD, length}
-use Rattle.laws.specs.Choice.{pick, allOf, allOf-imp, both-true, true-both, true-either, either-true}
+use Rattle.laws.specs.Logic.{Bool, true, false, _&&_, _||_, false≢true, List, [], _∷_, _≡_, refl, sym, _∙_}
+use Rattle.laws.specs.Numbers.{ℕ, zero, suc, _+_, _≤_, le-refl, arith, eqb-true, eq-eqb, eqb, ltb, length, getD}
+use Rattle.laws.specs.Choice.{allOf, allOf-imp, both-true, true-both, true-either, either-true}
 use Rattle.laws.specs.Tabulate.{tabulate}
 use Rattle.rules.specs.Answers.{numbersUsedUp, stampsUsedUp, takerOf}
 use Rattle.rules.specs.Auction.{matchOf}
@@ -22,8 +15,7 @@ use Rattle.rules.specs.Quote.{Offered, buyOf, quoted, sellOf, withBuy, withSell
 use Rattle.rules.specs.Settlement.{settled, settledListing}
 use Rattle.rules.specs.Step.{cancelled, enteredOf, exchangeAfter, exchangeMatched, hasNumber, listingWithout, removed, withListing}
 use Rattle.rules.specs.WellFormed.{ahead, isQuoteOf}
-use Rattle.rules.specs.declared.NewOrder.{NewOrder}
-use Rattle.rules.specs.declared.Order.{Order}
+use Rattle.rules.specs.declared.{NewOrder.NewOrder, Order.Order}
 use Rattle.rules.proofs.AuctionTaken.{KeptWithFewer}
 use Rattle.rules.proofs.Changes.{changed-either}
 use Rattle.invariants.proofs.AllResting.{entered-resting, lessened-resting, matched-resting, without-resting}
@@ -209,11 +201,11 @@ settled-none (suc n) f (suc c) sell h = settled-none n (λ i. f (suc i)) c sell 
 pub settled-stamped : (x : Exchange) → StampsAsNumbers (settled x)
 unfolding settled settledListing listingAt allOf
 settled-stamped x =
-    record { next = refl; orders = λ c sell. rw (settled-none (length (x .listings)) (settledListing x) c sell (λ i. none sell)) refl }
-  where
-    none : (sell : Bool) → pick {A = List Order} sell [] [] ≡ []
-    none true = refl
-    none false = refl
+    record {
+      next = refl;
+      orders = λ c sell. rw (settled-none (length (x .listings)) (settledListing x) c sell (λ i.
+          (elim sell [ false ↦ refl | true ↦ refl ]))) refl;
+    }
 
 -- where each order enters with one number for both, it stays so
 pub entered-stamped : (x y : Exchange) → StampsAsNumbers x → (new : List Stamped) → (y .nextstamp ≡ y .next) × Alike new → Follow x new y → StampsAsNumbers y

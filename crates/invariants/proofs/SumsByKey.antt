@@ -1,11 +1,6 @@
 -- Sums by key: what is no more for each key is no more in all. Of any two lists; keys may be used more than once. Assumes nothing.
-use mathlib.Core.Bool.{Bool, true, false}
-use mathlib.Core.List.{List, [], _∷_}
-use mathlib.Core.Path.{_≡_, refl}
-use Prim.Native.Nat.{ℕ, zero, suc, _+_, _<_, _≤_}
-use native.Mathlib.Omega.{arith}
-use borrow.Author.Tests.{eqb-true, eqb-false, lt-ltb, le-ltb, ltb-true, ltb-false}
-use lib.Dec.{ltb, eqb}
+use Rattle.laws.specs.Logic.{Bool, true, false, List, [], _∷_, _≡_, refl}
+use Rattle.laws.specs.Numbers.{ℕ, zero, suc, _+_, _<_, _≤_, arith, eqb-true, eqb-false, ltb-true, ltb-false, lt-ltb, le-ltb, eqb, ltb}
 use Rattle.laws.specs.Choice.{pick}
 use Rattle.laws.specs.Sums.{sumOf}
 

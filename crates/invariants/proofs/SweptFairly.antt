@@ -1,12 +1,6 @@
 -- Laws 8 to 11 of every sweep of a queue by an arriving order (rules, specs/Fairness). Assumes nothing.
-use mathlib.Core.Bool.{Bool, true, false, not, true≢false}
-use mathlib.Core.List.{List, [], _∷_}
-use mathlib.Core.Logic.{⊎-elim}
-use mathlib.Core.Path.{_≡_, refl, ap, _∙_}
-use Prim.Native.Nat.{ℕ, _+_, _-_, _<_, _≤_, min}
-use native.Mathlib.Omega.{arith}
-use borrow.Author.Tests.{eq-eqb}
-use lib.Dec.{eqb}
+use Rattle.laws.specs.Logic.{Bool, true, false, not, true≢false, List, [], _∷_, ⊎-elim, _≡_, refl, ap, _∙_}
+use Rattle.laws.specs.Numbers.{ℕ, _+_, _-_, _<_, _≤_, min, arith, eq-eqb, eqb}
 use Rattle.laws.specs.Choice.{allOf, pick, true-both}
 use Rattle.laws.specs.Sums.{sumOf}
 use Rattle.rules.specs.Answers.{isLimit}
@@ -15,11 +9,8 @@ use Rattle.rules.specs.Exchange.{bestPrice, lotsWhere}
 use Rattle.rules.specs.Fairness.{AtLimitOrBetter, LotsAccounted, NothingBetterLeft, PriceThenTime, lotsNumbered, lotsTraded, orderOn}
 use Rattle.rules.specs.Matching.{Swept, counterpart, meets, sweep, tradePrice, tradeWith, tradedLots, withLots}
 use Rattle.rules.specs.WellFormed.{numbers, sorted, usedOnce}
-use Rattle.rules.specs.declared.Order.{Order}
-use Rattle.rules.specs.declared.PriceCondition.{PriceCondition}
+use Rattle.rules.specs.declared.{Order.Order, PriceCondition.PriceCondition, Taker.Taker, Trade.Trade}
 use Rattle.rules.specs.declared.PriceCondition.the-variants.{Limit, Market, Best}
-use Rattle.rules.specs.declared.Taker.{Taker}
-use Rattle.rules.specs.declared.Trade.{Trade}
 use Rattle.rules.proofs.Between.{every-order, resting-number, swept-between, swept-in-turn, swept-pairs}
 use Rattle.rules.proofs.Fillable.{traded-cons, traded-nil, unmet-behind}
 use Rattle.rules.proofs.Prices.{RoundsTo}

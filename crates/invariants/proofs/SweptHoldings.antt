@@ -1,23 +1,14 @@
 -- A sweep keeps every account's limits and the coverage of its closes: the arriving order's lots count as if they rested in front
 -- of its own side's queue. Assumes nothing.
-use mathlib.Core.Bool.{Bool, true, false}
-use mathlib.Core.List.{List, [], _∷_}
-use mathlib.Core.Path.{_≡_}
-use Prim.Native.Nat.{ℕ, _-_, _<_, _≤_, min}
-use native.Mathlib.Omega.{arith}
+use Rattle.laws.specs.Logic.{Bool, true, false, List, [], _∷_, _≡_}
+use Rattle.laws.specs.Numbers.{ℕ, _-_, _<_, _≤_, min, arith}
 use Rattle.laws.specs.Choice.{pick, allOf, both-true}
 use Rattle.laws.specs.Chains.{join}
 use Rattle.rules.specs.Exchange.{resting}
 use Rattle.rules.specs.Holdings.{bookTrade, bookTrades, legCovered, bookBuyer, neverBelowZero}
 use Rattle.rules.specs.Matching.{withLots, remainder, Swept, untouched, sweep, tradedLots, tradeWith}
 use Rattle.rules.specs.WellFormed.{orderInRange}
-use Rattle.rules.specs.declared.Account.{Account}
-use Rattle.rules.specs.declared.Contract.{Contract}
-use Rattle.rules.specs.declared.Order.{Order}
-use Rattle.rules.specs.declared.PairingMethod.{PairingMethod}
-use Rattle.rules.specs.declared.PriceCondition.{PriceCondition}
-use Rattle.rules.specs.declared.Taker.{Taker}
-use Rattle.rules.specs.declared.Trade.{Trade}
+use Rattle.rules.specs.declared.{Account.Account, Contract.Contract, Order.Order, PairingMethod.PairingMethod, PriceCondition.PriceCondition, Taker.Taker, Trade.Trade}
 use Rattle.rules.proofs.Fillable.{traded-nil, traded-cons}
 use Rattle.rules.proofs.Holdings.{never-nil}
 use Rattle.rules.proofs.Sweep.{trade-lots, partFilled, filled, sweep-ind}
@@ -137,8 +128,7 @@ module _ (accounts : ℕ) (limit : ℕ → ℕ) (price next nextstamp : ℕ) (co
         omega (arith, traded-cons (tradeWith t o left last) [], traded-nil, trade-lots t o left last) in
         record { never = never-on [] (never-nil (bookTrade l (tradeWith t o left last))); kept = rw e (rw m at (q .kept)) }
 
-    full-kept : (s : Swept) → o .lots ≤ left →
-        (KeptBy (t .sell) accounts limit (t .contract) (bookTrade l (tradeWith t o left last))
+    full-kept : (s : Swept) → o .lots ≤ left → (KeptBy (t .sell) accounts limit (t .contract) (bookTrade l (tradeWith t o left last))
         (remainder t price (left - o .lots) ∷ own) os → SweptKept accounts limit price t own (bookTrade l (tradeWith t o left last))
         (left - o .lots) s) →
         SweptKept accounts limit price t own l left (filled t o left last s)

@@ -1,22 +1,14 @@
 -- The trades of a sweep are in range: accounts and contract exist, the two order numbers differ, the price is allowed today, the
 -- lots are 1 to 1,000. Assumes nothing.
-use mathlib.Core.Bool.{Bool, true, false, not, _&&_}
-use mathlib.Core.List.{List}
-use mathlib.Core.Path.{_≡_, sym, ap}
-use Prim.Native.Nat.{ℕ, _<_, _≤_}
-use native.Mathlib.Omega.{arith}
-use borrow.Author.Tests.{eqb-false, ne-eqb, not-true}
-use lib.Dec.{eqb}
-use lib.ListN.{length, getD}
+use Rattle.laws.specs.Logic.{Bool, true, false, not, _&&_, List, _≡_, sym, ap}
+use Rattle.laws.specs.Numbers.{ℕ, _<_, _≤_, arith, eqb-false, ne-eqb, not-true, eqb, length, getD}
 use Rattle.laws.specs.Choice.{pick, allOf, allOf-at, allOf-true, both-true, true-both}
 use Rattle.rules.specs.Bounds.{onTick, allowedToday}
 use Rattle.rules.specs.Exchange.{Exchange, listingAt, noOrder}
 use Rattle.rules.specs.Matching.{tradePrice, sweep, tradeWith}
 use Rattle.rules.specs.WellFormed.{orderInRange, tradeInRange}
-use Rattle.rules.specs.declared.Contract.{Contract}
-use Rattle.rules.specs.declared.Order.{Order}
+use Rattle.rules.specs.declared.{Contract.Contract, Order.Order, Taker.Taker}
 use Rattle.rules.specs.declared.PriceCondition.the-variants.{Limit}
-use Rattle.rules.specs.declared.Taker.{Taker}
 use Rattle.rules.proofs.Prices.{RoundsTo, allowed-facts, price-allowed}
 use Rattle.rules.proofs.Sweep.{swept-each}
 use Rattle.invariants.proofs.Carry.{Allows}

@@ -1,7 +1,5 @@
 -- WHAT HOLDS OF EVERY COMMAND ON A WELL-FORMED STATE holds of the memory that a call leaves, and of each command of a run. Assumes nothing.
-use mathlib.Core.Bool.{true}
-use mathlib.Core.List.{List, [], _∷_, _++_}
-use mathlib.Core.Path.{_≡_, subst⁻¹, _∙_}
+use Rattle.laws.specs.Logic.{true, List, [], _∷_, _++_, _≡_, subst⁻¹, _∙_}
 use Rattle.rules.specs.Condition3.{run}
 use Rattle.rules.specs.Exchange.{Exchange}
 use Rattle.rules.specs.Kinds.{step}

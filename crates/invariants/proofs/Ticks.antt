@@ -1,19 +1,13 @@
 -- Prices on the tick: a price allowed today is a tick multiple, and so is a settlement price. Assumes nothing.
-use mathlib.Core.Bool.{true}
-use mathlib.Core.List.{List, [], _∷_}
-use mathlib.Core.Path.{_≡_}
-use Prim.Native.Nat.{ℕ, _+_, _-_, _*_, _/_, _%_, _≤_, min, max}
-use native.Mathlib.Nat.{div-mul-le-self, le-div-iff-mul-le, div-le-of-le-mul, mul-mod-left, mul-le-mul-right}
-use native.Mathlib.Omega.{arith}
-use borrow.Author.Tests.{leb-true, eq-eqb}
-use lib.Dec.{leb}
+use Rattle.laws.specs.Logic.{true, List, [], _∷_, _≡_}
+use Rattle.laws.specs.Numbers.{ℕ, _+_, _-_, _*_, _/_, _%_, _≤_, min, max, mul-le-mul-right, mul-mod-left, div-mul-le-self, div-le-of-le-mul, le-div-iff-mul-le}
+use Rattle.laws.specs.Numbers.{arith, leb-true, eq-eqb, leb}
 use Rattle.laws.specs.Choice.{allOf, both-true}
 use Rattle.laws.specs.Sums.{sumOf}
 use Rattle.rules.specs.Bounds.{within, onTick, dayLow, dayHigh, allowedToday, maxPrice}
 use Rattle.rules.specs.Matching.{tradedLots}
 use Rattle.rules.specs.Settlement.{tradedValue, weightedPrice}
-use Rattle.rules.specs.declared.Contract.{Contract}
-use Rattle.rules.specs.declared.Trade.{Trade}
+use Rattle.rules.specs.declared.{Contract.Contract, Trade.Trade}
 use Rattle.rules.proofs.Prices.{allowed-facts}
 use Rattle.rules.proofs.Terms.{Multiple}
 

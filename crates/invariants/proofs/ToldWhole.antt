@@ -1,11 +1,7 @@
 -- What `Told` tells is all there is: two memories that it tells of are one. Assumes nothing.
-use mathlib.Core.Bool.{Bool, true, false}
-use mathlib.Core.List.{List}
-use mathlib.Core.Path.{_≡_, sym, ap, _∙_}
-use Prim.Native.Nat.{ℕ, _+_, _*_, _/_, _%_, _<_}
-use native.Mathlib.Omega.{arith}
-use lib.ListN.{length, getD}
 use lib.Seq.{ext-getD}
+use Rattle.laws.specs.Logic.{Bool, true, false, List, _≡_, sym, ap, _∙_}
+use Rattle.laws.specs.Numbers.{ℕ, _+_, _*_, _/_, _%_, _<_, arith, length, getD}
 use Rattle.rules.specs.Bounds.{maxResting, maxAccounts}
 use Rattle.rules.specs.Exchange.{Exchange, accountAt, holdingAt, noAccount, noContract, noHolding}
 use Rattle.rules.specs.Memory.{Memory, firstWord, orderStride, queueStride, tradeStride}

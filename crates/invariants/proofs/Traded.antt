@@ -1,11 +1,7 @@
 -- A step that makes trades in one contract and replaces its listing keeps a state well formed: an order entered, the match of an auction.
 -- Assumes nothing.
-use mathlib.Core.Bool.{Bool, true}
-use mathlib.Core.List.{List}
-use mathlib.Core.Path.{_≡_, sym, subst}
-use Prim.Native.Nat.{ℕ, _+_, _<_, _≤_}
-use native.Mathlib.Omega.{arith}
-use lib.ListN.{length, length-set, length-append}
+use Rattle.laws.specs.Logic.{Bool, true, List, _≡_, sym, subst}
+use Rattle.laws.specs.Numbers.{ℕ, _+_, _<_, _≤_, arith, length, length-append, length-set}
 use Rattle.laws.specs.Choice.{allOf, allOf-append, true-both}
 use Rattle.laws.specs.Lists.{at-set}
 use Rattle.rules.specs.Bounds.{maxResting, maxTrades, numbersEnd}

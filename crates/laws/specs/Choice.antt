@@ -42,6 +42,11 @@ pick-true t x y e = rw e
 pub pick-false {ℓ} : {A : Type ℓ} (t : Bool) (x y : A) → t ≡ false → pick t x y ≡ y
 pick-false t x y e = rw e
 
+-- either way a test comes out
+pub by-test : {P : Type 0} (t : Bool) → (t ≡ true → P) → (t ≡ false → P) → P
+by-test true f g = f refl
+by-test false f g = g refl
+
 -- what holds of either, under its test, holds of the choice
 pub pick-either : {A : Type 0} (P : A → Type 0) (t : Bool) (x y : A) → (t ≡ true → P x) → (t ≡ false → P y) → P (pick t x y)
 pick-either P true x y f g = f refl

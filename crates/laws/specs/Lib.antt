@@ -3,6 +3,8 @@ pub mod Bound
 pub mod Chains
 pub mod Choice
 pub mod Lists
+pub mod Logic
+pub mod Numbers
 pub mod Ring
 pub mod Sums
 pub mod Tabulate

@@ -1,16 +1,11 @@
 -- The lines that a loop prints, one more a turn: what stands after the turn is what stood before it and the new line.
 -- Assumes nothing.
-use mathlib.Core.List.{List, [], _∷_, _++_, append-assoc, append-nil}
-use mathlib.Core.Path.{_≡_, sym}
-use Prim.Native.Nat.{ℕ, suc, _+_}
-use native.Mathlib.Nat.{add-zero}
-use native.Mathlib.Omega.{arith}
-use lib.ListN.{length}
+use Rattle.laws.specs.Logic.{List, [], _∷_, _++_, append-nil, append-assoc, _≡_, sym}
+use Rattle.laws.specs.Numbers.{ℕ, suc, _+_, add-zero, arith, length}
 use Rattle.rules.specs.Lines.{tradeLine, tradeLines}
 use Rattle.rules.specs.declared.Trade.{Trade}
 
-pub trade-turn : (k : ℕ) (ts : List Trade) (t : Trade)
-    → tradeLines k (ts ++ (t ∷ [])) ≡ tradeLines k ts ++ tradeLine (k + length ts) t
+pub trade-turn : (k : ℕ) (ts : List Trade) (t : Trade) → tradeLines k (ts ++ (t ∷ [])) ≡ tradeLines k ts ++ tradeLine (k + length ts) t
 unfolding tradeLines
 trade-turn k [] t = rw (add-zero k) (append-nil (tradeLine k t))
 trade-turn k (s ∷ ts) t =

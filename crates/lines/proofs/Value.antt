@@ -1,11 +1,7 @@
 -- The digits that are printed mean the number: twenty hold every number of 64 bits. Assumes nothing.
-use mathlib.Core.List.{List, [], _∷_, _++_}
-use mathlib.Core.Bool.{Bool, true, false}
-use mathlib.Core.Path.{_≡_, refl}
-use Prim.Native.Nat.{ℕ, zero, suc, _+_, _-_, _*_, _/_, _%_, _^_, _<_}
-use native.Mathlib.Nat.{div-add-mod', pow-suc}
-use native.Mathlib.Omega.{arith}
-use lib.Dec.{ltb}
+use native.Mathlib.Nat.{pow-suc}
+use Rattle.laws.specs.Logic.{Bool, true, false, List, [], _∷_, _++_, _≡_, refl}
+use Rattle.laws.specs.Numbers.{ℕ, zero, suc, _+_, _-_, _*_, _/_, _%_, _^_, _<_, div-add-mod', arith, ltb}
 use Rattle.laws.specs.Choice.{pick}
 use Rattle.rules.specs.Lines.{digits, decimal}
 

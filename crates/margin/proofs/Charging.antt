@@ -1,20 +1,13 @@
 -- Charged margin contract by contract, as a loop adds it up, and its bounds. Assumes nothing.
-use mathlib.Core.List.{List}
-use mathlib.Core.Path.{_≡_, refl, sym, ap, _∙_}
-use Prim.Native.Nat.{ℕ, zero, suc, _+_, _*_, _<_, _≤_, max}
-use native.Mathlib.Nat.{mul-le-mul-left, mul-le-mul-right, le-trans, le-of-eq}
-use native.Mathlib.Numerals.{add-one}
-use native.Mathlib.Omega.{arith}
-use lib.ListN.{getD}
 use mir.Facts.{fits-below}
 use mir.Syntax.{w64}
 use mir.Val.{Fits}
+use Rattle.laws.specs.Logic.{List, _≡_, refl, sym, ap, _∙_}
+use Rattle.laws.specs.Numbers.{ℕ, zero, suc, _+_, _*_, _<_, _≤_, max, le-trans, le-of-eq, mul-le-mul-left, mul-le-mul-right, add-one, arith, getD}
 use Rattle.rules.specs.Exchange.{noAccount, noContract, noHolding, restingOpens}
 use Rattle.rules.specs.Margin.{chargeOf, charge, chargedLots, chargedTo, charged}
 use Rattle.rules.specs.Memory.{Memory, exchangeOf, listingIn, queueIn, memory}
-use Rattle.rules.specs.declared.Contract.{Contract}
-use Rattle.rules.specs.declared.Holding.{Holding}
-use Rattle.rules.specs.declared.State.{State}
+use Rattle.rules.specs.declared.{Contract.Contract, Holding.Holding, State.State}
 use Rattle.rules.proofs.InUse.{contracts-in-use, listing-in-use, holding-in-use}
 use Rattle.margin.specs.Charge.{listingFrom, ChargeTerms, ChargeableIn, Chargeable, Has, ChargedIs, ChargedAt}
 
@@ -22,12 +15,10 @@ use Rattle.margin.specs.Charge.{listingFrom, ChargeTerms, ChargeableIn, 
 
 -- multiplier x reference, and x rate
 pub value-small : (c : Contract) → ChargeTerms c → c .multiplier * c .reference ≤ 1_000_000_000
-value-small c t =
-    le-trans (mul-le-mul-right (c .reference) (t .multiplier)) (mul-le-mul-left 1_000 (t .reference))
+value-small c t = le-trans (mul-le-mul-right (c .reference) (t .multiplier)) (mul-le-mul-left 1_000 (t .reference))
 
 pub rated-small : (c : Contract) → ChargeTerms c → c .multiplier * c .reference * c .rate ≤ 10_000_000_000_000
-rated-small c t =
-    le-trans (mul-le-mul-right (c .rate) (value-small c t)) (mul-le-mul-left 1_000_000_000 (t .rate))
+rated-small c t = le-trans (mul-le-mul-right (c .rate) (value-small c t)) (mul-le-mul-left 1_000_000_000 (t .rate))
 
 pub charge-small : (c : Contract) → ChargeTerms c → charge c ≤ 1_000_000_000
 unfolding chargeOf
@@ -120,8 +111,7 @@ module _ (holdings : List Holding) (terms : List Contract) (contracts : ℕ) (bu
     turn-small = le-trans (le-of-eq e) (charged-small _ _ _ _ _ _ _ _ (g .each c lc))
 
     pub total-fits : Fits w64 (total + v)
-    total-fits =
-        fits-below {n = 1_000_000_000_000_000} tt (omega (arith, turn-small, w .small, g .few))
+    total-fits = fits-below {n = 1_000_000_000_000_000} tt (omega (arith, turn-small, w .small, g .few))
 
     margin-more : total + v ≡ chargedFirst holdings terms buys buycounts sells sellcounts a (c + 1)
     unfolding chargedFirst
@@ -129,11 +119,7 @@ module _ (holdings : List Holding) (terms : List Contract) (contracts : ℕ) (bu
 
     pub charging-more : Charging holdings terms buys buycounts sells sellcounts a contracts (total + v) (c + 1)
     charging-more =
-        record {
-          within = omega arith;
-          margin = margin-more;
-          small = omega (arith, turn-small, w .small);
-        }
+        record { within = omega arith; margin = margin-more; small = omega (arith, turn-small, w .small) }
 
   pub charging-done : (total c : ℕ) → contracts ≤ c → Charging holdings terms buys buycounts sells sellcounts a contracts total c
       → ChargedIs holdings terms contracts buys buycounts sells sellcounts a total

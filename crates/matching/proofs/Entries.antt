@@ -1,18 +1,11 @@
 -- An order entered: what a remainder does to its own queue, what is left of the opposite one without its filled orders, and both
 -- as one answer. Assumes nothing.
-use mathlib.Core.Bool.{Bool}
-use mathlib.Core.List.{List, _++_}
-use mathlib.Core.Path.{_≡_, refl, sym, ap, _∙_}
-use Prim.Native.Nat.{ℕ, zero, suc, _+_, _-_, _≤_}
-use native.Mathlib.Omega.{arith}
-use lib.ListN.{length, take, drop, length-append}
-use lib.Seq.{drop-at, length-take-le}
+use Rattle.laws.specs.Logic.{Bool, List, _++_, _≡_, refl, sym, ap, _∙_}
+use Rattle.laws.specs.Numbers.{ℕ, zero, suc, _+_, _-_, _≤_, arith, length, take, drop, length-append, length-take-le, drop-at}
 use Rattle.laws.specs.Choice.{pick}
 use Rattle.rules.specs.Matching.{sweep, restIn, remainder, restLots, restedLots, enter}
 use Rattle.rules.specs.Memory.{queueIn, putQueue, orderStride, firstWord}
-use Rattle.rules.specs.declared.Account.{Account}
-use Rattle.rules.specs.declared.Order.{Order}
-use Rattle.rules.specs.declared.Taker.{Taker}
+use Rattle.rules.specs.declared.{Account.Account, Order.Order, Taker.Taker}
 use Rattle.rules.proofs.Codecs.{length-queue, put-queue, queue-put, putQueue-again}
 use Rattle.rules.proofs.Fillable.{swept-at-most}
 use Rattle.rules.proofs.Queue.{length-restIn}
@@ -64,8 +57,7 @@ front-dropped queues queues′ c count k rest room l e =
     let lq : length (front ++ rest) ≡ count = rw (length-append, lf) l in
     let q : queueIn queues′ c count ≡ front ++ rest
     = rw e (ap (queueIn (putQueue queues c count (front ++ rest)) c) (sym lq) ∙ queue-put queues c count (front ++ rest) (omega arith)) in
-    ap (λ (os : List Order). putQueue queues′ c count (drop k os)) q
-    ∙ ap (putQueue queues′ c count) (drop-at front rest k lf)
+    ap (λ (os : List Order). putQueue queues′ c count (drop k os)) q ∙ ap (putQueue queues′ c count) (drop-at front rest k lf)
     ∙ ap (λ (a : List ℕ). putQueue a c count rest) e ∙ putQueue-again queues c count (front ++ rest) rest (omega arith) (omega arith)
 
 -- ---- the answer

@@ -1,13 +1,7 @@
 -- The sweep's loop: what it ends with if from here on it goes by the rules, a turn that keeps this, and each way out of the
 -- loop. Assumes nothing.
-use mathlib.Core.Bool.{Bool, true, false}
-use mathlib.Core.List.{List, [], _∷_, _++_}
-use mathlib.Core.Path.{_≡_, sym, ap, _∙_}
-use Prim.Native.Nat.{ℕ, _+_, _-_, _*_, _<_, _≤_, min}
-use native.Mathlib.Numerals.{add-one}
-use native.Mathlib.Omega.{arith}
-use lib.ListN.{length, take, drop, getD, set, length-drop, take-append-drop}
-use lib.Seq.{set-split}
+use Rattle.laws.specs.Logic.{Bool, true, false, List, [], _∷_, _++_, _≡_, sym, ap, _∙_}
+use Rattle.laws.specs.Numbers.{ℕ, _+_, _-_, _*_, _<_, _≤_, min, add-one, arith, length, getD, set, take, drop, length-drop, take-append-drop, set-split}
 use Rattle.laws.specs.Choice.{pick}
 use Rattle.areas.specs.Records.{store}
 use Rattle.areas.proofs.Records.{length-store}
@@ -16,10 +10,7 @@ use Rattle.rules.specs.Exchange.{noOrder}
 use Rattle.rules.specs.Holdings.{bookTrade}
 use Rattle.rules.specs.Matching.{counterpart, tradePrice, tradeWith, withLots, Swept, untouched, sweep}
 use Rattle.rules.specs.Memory.{tradeWords, orderFrom, queueIn, putQueue, tradeStride, firstWord}
-use Rattle.rules.specs.declared.Account.{Account}
-use Rattle.rules.specs.declared.Order.{Order}
-use Rattle.rules.specs.declared.Taker.{Taker}
-use Rattle.rules.specs.declared.Trade.{Trade}
+use Rattle.rules.specs.declared.{Account.Account, Order.Order, Taker.Taker, Trade.Trade}
 use Rattle.rules.proofs.Codecs.{trade-codec, length-queue, order-at, put-queue}
 use Rattle.book.proofs.EarlyStop.{trades-counted, count-met}
 use Rattle.rules.proofs.Sweep.{trade-lots, trade-price, sweep-end, sweep-used, sweep-unmet, sweep-part, sweep-full}
@@ -179,8 +170,7 @@ module _
           rw (eh, ea)
           (sym (finish-trade done made price held area tr s (omega arith))
           ∙ ap (λ (x : Trade). finish done made price held area (record { trades = x ∷ s .trades; rest = s .rest })) (m .trade)
-          ∙ ap (finish done made price held area) (sym (ap (sweep t (lots - done) price) next ∙ e))
-          ∙ g .answer)
+          ∙ ap (finish done made price held area) (sym (ap (sweep t (lots - done) price) next ∙ e)) ∙ g .answer)
 
       -- the order is filled: the loop goes on behind it
       pub going-on : o .lots ≤ tr .lots

@@ -1,14 +1,9 @@
 -- "A mended file mends to itself with an empty list." Assumes nothing.
-use mathlib.Core.Bool.{Bool, true, false, true≢false, _&&_}
-use mathlib.Core.List.{List, [], _++_, append-nil}
-use mathlib.Core.Path.{_≡_, refl, sym, ap, _∙_}
-use Prim.Native.Nat.{ℕ, zero, suc, _+_, _-_, _*_, _%_, _≤_, _<_}
-use native.Mathlib.Omega.{arith}
-use lib.Dec.{leb, ltb, eqb}
-use lib.ListN.{length, getD, take, drop, List·getD-append}
-use lib.Seq.{drop-drop, take-add, getD-take, getD-drop, getD-append-add, take-at, take-all, drop-append-add, drop-append-seam, length-take-le}
-use borrow.Author.Tests.{eq-eqb, le-leb, lt-leb, ltb-true, ltb-false}
-use native.Mathlib.Nat.{zero-add}
+use lib.Seq.{drop-append-seam}
+use Rattle.laws.specs.Logic.{Bool, true, false, _&&_, true≢false, List, [], _++_, append-nil, _≡_, refl, sym, ap, _∙_}
+use Rattle.laws.specs.Numbers.{ℕ, zero, suc, _+_, _-_, _*_, _%_, _<_, _≤_, zero-add, arith, ltb-true, ltb-false, eq-eqb, le-leb, lt-leb, eqb, leb, ltb, length}
+use Rattle.laws.specs.Numbers.{getD, take, drop, List·getD-append, length-take-le, take-all, take-add, take-at, drop-drop, drop-append-add, getD-take}
+use Rattle.laws.specs.Numbers.{getD-drop, getD-append-add}
 use Rattle.laws.specs.Choice.{all, all-ext, both-true, pick}
 use Rattle.dayfile.proofs.Places.{contract-place, account-place, command-place, accounts-read, commands-read, length-decides, length-ends, head-is, sound-head}
 use Rattle.rules.specs.DayFile.{sound as DayFile·sound}
@@ -58,18 +53,15 @@ module _ (a b : List ℕ) (i j w : ℕ) (same : (t : ℕ) → t < w → getD a (
 
   same-16 : (o x y : ℕ) → o + 2 ≤ w → x ≡ i + o → y ≡ j + o → u16At a x ≡ u16At b y
   unfolding u16At
-  same-16 o x y h e f =
-      rw (same-8 o x y (omega arith) e f, same-8 (o + 1) (x + 1) (y + 1) (omega arith) (omega arith) (omega arith))
+  same-16 o x y h e f = rw (same-8 o x y (omega arith) e f, same-8 (o + 1) (x + 1) (y + 1) (omega arith) (omega arith) (omega arith))
 
   pub same-32 : (o x y : ℕ) → o + 4 ≤ w → x ≡ i + o → y ≡ j + o → u32At a x ≡ u32At b y
   unfolding u32At
-  same-32 o x y h e f =
-      rw (same-16 o x y (omega arith) e f, same-16 (o + 2) (x + 2) (y + 2) (omega arith) (omega arith) (omega arith))
+  same-32 o x y h e f = rw (same-16 o x y (omega arith) e f, same-16 (o + 2) (x + 2) (y + 2) (omega arith) (omega arith) (omega arith))
 
   pub same-64 : (o x y : ℕ) → o + 8 ≤ w → x ≡ i + o → y ≡ j + o → u64At a x ≡ u64At b y
   unfolding u64At
-  same-64 o x y h e f =
-      rw (same-32 o x y (omega arith) e f, same-32 (o + 4) (x + 4) (y + 4) (omega arith) (omega arith) (omega arith))
+  same-64 o x y h e f = rw (same-32 o x y (omega arith) e f, same-32 (o + 4) (x + 4) (y + 4) (omega arith) (omega arith) (omega arith))
 
   pub same-record : commandWidth ≤ w → recordFrom a i ≡ recordFrom b j
   unfolding recordFrom
@@ -100,14 +92,12 @@ before-seam : (l ys : List ℕ) (at : ℕ) → at + commandWidth ≤ length l �
 before-seam l ys at h g =
     ap (λ r. isMalformed (commandOf r)) (same-record (l ++ ys) l at at commandWidth (λ (t : ℕ) (i : t < commandWidth). List·getD-append l ys 0 (at + t) (omega arith)) (omega arith)) ∙ g
 
-at-seam : (l file : List ℕ) (at from : ℕ) → at ≡ length l → wellFormedAt file from
-    → wellFormedAt (l ++ take commandWidth (drop from file)) at
+at-seam : (l file : List ℕ) (at from : ℕ) → at ≡ length l → wellFormedAt file from → wellFormedAt (l ++ take commandWidth (drop from file)) at
 at-seam l file at from e g =
     ap (λ r. isMalformed (commandOf r))
     (same-record (l ++ take commandWidth (drop from file)) file at from commandWidth
     (λ (t : ℕ) (i : t < commandWidth). rw e (getD-append-add l (take commandWidth (drop from file)) t 0 ∙ getD-take commandWidth (drop from file) t 0 i ∙ getD-drop from file t 0))
-    (omega arith))
-    ∙ g
+    (omega arith)) ∙ g
 
 pub kept-good : (file : List ℕ) (first k : ℕ) → first + commandWidth * k ≤ length file → (j : ℕ) → j < kept file first k
     → wellFormedAt (keptBytes file first k) (commandWidth * j)
@@ -172,8 +162,7 @@ module _ (file : List ℕ) (sound : headSound file ≡ true) where
   same-accounts =
       accounts-read again
       ∙ same-32 again file 0 0 (first - countWidth) same-head (countWidth + contractWidth * contractsIn file) (countWidth + contractWidth * contractsIn again) (countWidth + contractWidth * contractsIn file)
-      (omega (arith, place)) (omega (arith, same-contracts)) (omega arith)
-      ∙ sym (accounts-read file)
+      (omega (arith, place)) (omega (arith, same-contracts)) (omega arith) ∙ sym (accounts-read file)
 
   same-place : commandPlace again 0 ≡ first
   same-place = omega (arith, command-place again 0, place, same-contracts, same-accounts)
@@ -182,8 +171,7 @@ module _ (file : List ℕ) (sound : headSound file ≡ true) where
   drop-front =
       let e : first ≡ length (take (first - countWidth) file) + length (four (keptCount file)) =
       omega (arith, length-front, length-four (keptCount file), place-least file sound) in
-      ap (λ (l : List ℕ). drop first l) parts
-      ∙ ap (λ (k : ℕ). drop k (take (first - countWidth) file ++ (four (keptCount file) ++ bytes))) e
+      ap (λ (l : List ℕ). drop first l) parts ∙ ap (λ (k : ℕ). drop k (take (first - countWidth) file ++ (four (keptCount file) ++ bytes))) e
       ∙ drop-append-add (take (first - countWidth) file) (four (keptCount file) ++ bytes) (length (four (keptCount file)))
       ∙ drop-append-seam (four (keptCount file)) bytes
 
@@ -202,8 +190,7 @@ module _ (file : List ℕ) (sound : headSound file ≡ true) where
       (λ (t : ℕ) (i : t < commandWidth).
       let e : first + commandWidth * j + t ≡ first + (commandWidth * j + t) = omega arith in
       rw e (sym (getD-drop first again (commandWidth * j + t) 0) ∙ ap (λ (l : List ℕ). getD l (commandWidth * j + t) 0) drop-front))
-      (omega arith))
-      ∙ kept-good file first (wholeRecords file first) (whole-within file first (place-within file sound)) j h
+      (omega arith)) ∙ kept-good file first (wholeRecords file first) (whole-within file first (place-within file sound)) j h
 
   rest : length again - first ≡ commandWidth * keptCount file
   rest = omega (arith, length-mended file sound)
@@ -222,8 +209,7 @@ module _ (file : List ℕ) (sound : headSound file ≡ true) where
 
   bytes-again : keptBytes again first (wholeRecords again first) ≡ bytes
   bytes-again =
-      ap (keptBytes again first) whole
-      ∙ bytes-stay again first (keptCount file) most all-good (keptCount file) (omega arith)
+      ap (keptBytes again first) whole ∙ bytes-stay again first (keptCount file) most all-good (keptCount file) (omega arith)
       ∙ ap (λ (l : List ℕ). take (commandWidth * keptCount file) l) drop-front
       ∙ take-all (commandWidth * keptCount file) bytes (omega (arith, length-bytes))
 
@@ -238,8 +224,7 @@ module _ (file : List ℕ) (sound : headSound file ≡ true) where
       mended-from again first same-place
       ∙ ap (λ (l : List ℕ). l ++ (four (kept again first (wholeRecords again first)) ++ keptBytes again first (wholeRecords again first))) take-front
       ∙ ap (λ (k : ℕ). take (first - countWidth) file ++ (four k ++ keptBytes again first (wholeRecords again first))) kept-again
-      ∙ ap (λ (l : List ℕ). take (first - countWidth) file ++ (four (keptCount file) ++ l)) bytes-again
-      ∙ sym parts
+      ∙ ap (λ (l : List ℕ). take (first - countWidth) file ++ (four (keptCount file) ++ l)) bytes-again ∙ sym parts
 
   list-from : (l : List ℕ) (p c : ℕ) → (length l - p) % commandWidth ≡ 0 → wholeRecords l p ≡ c → kept l p c ≡ c → dropped l p c ≡ []
       → listFrom l p ≡ eight 0
@@ -249,8 +234,7 @@ module _ (file : List ℕ) (sound : headSound file ≡ true) where
   -- .. WITH AN EMPTY LIST: its count is 0 and nothing follows
   pub empty-list : droppedList (mendedFile file) ≡ eight 0
   empty-list =
-      ap (listFrom again) same-place
-      ∙ list-from again first (keptCount file) no-partial whole
+      ap (listFrom again) same-place ∙ list-from again first (keptCount file) no-partial whole
       (all-kept again first (keptCount file) most all-good (keptCount file) (omega arith))
       (none-listed again first (keptCount file) most all-good (keptCount file) (omega arith))
 
@@ -295,8 +279,7 @@ module _ (file : List ℕ) (sound : headSound file ≡ true) where
       let a = all (accountSound file) (accountsIn file) in
       let p = both-true (headWhole file && c) a (sym (head-is file) ∙ sound) in
       let q = both-true (headWhole file) c (p .0) in
-      head-is again
-      ∙ rw (
+      head-is again ∙ rw (
         again-whole,
         same-contracts,
         same-accounts,
@@ -319,8 +302,7 @@ module _ (file : List ℕ) (sound : headSound file ≡ true) where
   count-again =
       commands-read again
       ∙ same-32 again (four (keptCount file)) (first - countWidth) 0 countWidth same-count 0 (2 * countWidth + contractWidth * contractsIn again + accountWidth * accountsIn again) 0
-      (omega arith) (omega (arith, place, same-contracts, same-accounts)) (omega arith)
-      ∙ read-four (keptCount file)
+      (omega arith) (omega (arith, place, same-contracts, same-accounts)) (omega arith) ∙ read-four (keptCount file)
 
   -- A MENDED FILE IS A SOUND DAY FILE
   pub mended-sound : DayFile·sound (mendedFile file) ≡ true

@@ -1,22 +1,13 @@
 -- The records kept and dropped, one more a turn. Assumes nothing.
-use mathlib.Core.Bool.{Bool, true, false}
-use mathlib.Core.List.{List, [], _++_, append-nil}
-use mathlib.Core.Path.{_≡_, refl, sym, ap, _∙_}
-use Prim.Native.Nat.{ℕ, zero, suc, _+_, _-_, _*_, _≤_, _<_}
-use native.Mathlib.Nat.{add-zero}
-use native.Mathlib.Numerals.{add-one}
-use native.Mathlib.Omega.{arith}
-use lib.Dec.{eqb}
-use lib.ListN.{length, take, drop, length-append}
-use borrow.Author.Tests.{le-leb, lt-leb, ne-eqb}
+use Rattle.laws.specs.Logic.{Bool, true, false, List, [], _++_, append-nil, _≡_, refl, sym, ap, _∙_}
+use Rattle.laws.specs.Numbers.{ℕ, zero, suc, _+_, _-_, _*_, _<_, _≤_, add-zero, add-one, arith, ne-eqb, le-leb, lt-leb, eqb, length, take, drop, length-append}
 use Rattle.laws.specs.Choice.{pick}
 use Rattle.endian.specs.Written.{Written}
 use Rattle.endian.specs.Numbers.{two, four, eight}
 use Rattle.endian.proofs.Writes.{then, looser, no-byte, length-part}
 use Rattle.rules.specs.Command.{commandOf, isMalformed}
 use Rattle.rules.specs.DayFile.{recordFrom, commandWidth, maxCommands}
-use Rattle.rules.specs.declared.Command.{Command}
-use Rattle.rules.specs.declared.Record.{Record}
+use Rattle.rules.specs.declared.{Command.Command, Record.Record}
 use Rattle.mending.specs.Mend.{reason, kept, keptBytes, dropped, entry, entryWidth}
 
 pub length-entry : (k why : ℕ) → length (entry k why) ≡ entryWidth
@@ -133,18 +124,15 @@ module _ (file : List ℕ) (first : ℕ) where
           → length (dropped file first k ++ pick t [] (entry k (why file first k))) ≡ entryWidth * (suc k - (kept file first k + pick t 1 0))
       by-reason true i h = rw (append-nil (dropped file first k)) (omega (arith, i))
       by-reason false i h =
-          length-append (dropped file first k) (entry k (why file first k))
-          ∙ omega (arith, i, length-entry k (why file first k))
+          length-append (dropped file first k) (entry k (why file first k)) ∙ omega (arith, i, length-entry k (why file first k))
 
 -- ---- a turn of the code: n are kept so far, and w is the reason that it finds
 
-pub none-kept : {before : List ℕ} {at : ℕ} (file : List ℕ) (first : ℕ) → at ≤ length before
-    → Written 0 before at (keptBytes file first 0) before at
+pub none-kept : {before : List ℕ} {at : ℕ} (file : List ℕ) (first : ℕ) → at ≤ length before → Written 0 before at (keptBytes file first 0) before at
 unfolding keptBytes
 none-kept {before} {at} file first h = no-byte before at h
 
-pub none-dropped : {before : List ℕ} {at : ℕ} (file : List ℕ) (first : ℕ) → at ≤ length before
-    → Written 0 before at (dropped file first 0) before at
+pub none-dropped : {before : List ℕ} {at : ℕ} (file : List ℕ) (first : ℕ) → at ≤ length before → Written 0 before at (dropped file first 0) before at
 unfolding dropped
 none-dropped {before} {at} file first h = no-byte before at h
 

@@ -1,14 +1,7 @@
 -- The mended file and the list as wholes: lengths, what is written, and the ways out of the call. Assumes nothing.
-use mathlib.Core.Bool.{Bool, true, false}
-use mathlib.Core.List.{List, [], _++_, append-nil}
-use mathlib.Core.Path.{_≡_, refl, sym, ap, _∙_}
-use Prim.Native.Nat.{ℕ, zero, suc, _+_, _-_, _*_, _%_, _≤_, _<_}
-use native.Mathlib.Nat.{div-mul-le-self, add-zero}
-use native.Mathlib.Omega.{arith}
-use lib.Dec.{leb, ltb, eqb}
-use lib.ListN.{length, take, drop, length-append}
-use lib.Seq.{length-take-le}
-use borrow.Author.Tests.{leb-false, lt-ltb, le-ltb, ne-eqb}
+use Rattle.laws.specs.Logic.{Bool, true, false, List, [], _++_, append-nil, _≡_, refl, sym, ap, _∙_}
+use Rattle.laws.specs.Numbers.{ℕ, zero, suc, _+_, _-_, _*_, _%_, _<_, _≤_, add-zero, div-mul-le-self, arith, leb-false, ne-eqb, lt-ltb, le-ltb, eqb, leb, ltb}
+use Rattle.laws.specs.Numbers.{length, take, drop, length-append, length-take-le}
 use Rattle.areas.specs.Lists.{over}
 use Rattle.laws.specs.Choice.{pick}
 use Rattle.endian.specs.Written.{Written}
@@ -51,8 +44,7 @@ module _ (file : List ℕ) (sound : headSound file ≡ true) where
   length-mended =
       let first = commandPlace file 0 in
       let bytes = keptBytes file first (wholeRecords file first) in
-      length-append (take (first - countWidth) file) (four (keptCount file) ++ bytes)
-      ∙ omega (
+      length-append (take (first - countWidth) file) (four (keptCount file) ++ bytes) ∙ omega (
         arith,
         place-least,
         place-within,
@@ -72,8 +64,7 @@ module _ (file : List ℕ) (first : ℕ) where
   length-list =
       let n = wholeRecords file first in
       let last = pick (partialRecord file first) (entry n 2) [] in
-      length-append (eight (droppedCount file first)) (dropped file first n ++ last)
-      ∙ omega (
+      length-append (eight (droppedCount file first)) (dropped file first n ++ last) ∙ omega (
         arith,
         length-eight (droppedCount file first),
         length-append (dropped file first n) last,
@@ -89,8 +80,7 @@ dropped-most file first = by-partial (partialRecord file first)
     by-partial false = omega arith
 
 pub place-most : (file : List ℕ) → headSound file ≡ true → commandPlace file 0 ≤ 3 * countWidth + contractWidth * maxContracts + accountWidth * maxAccounts
-place-most file sound =
-    omega (arith, sound-head file sound .contracts, sound-head file sound .accounts, command-place file 0)
+place-most file sound = omega (arith, sound-head file sound .contracts, sound-head file sound .accounts, command-place file 0)
 
 module _ (file : List ℕ) (first n m : ℕ) (e : n ≡ wholeRecords file first) (g : m ≡ kept file first n) where
   pub count-whole : (length file - first) % commandWidth ≡ 0 → n - m ≡ droppedCount file first

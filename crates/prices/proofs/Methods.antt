@@ -1,8 +1,7 @@
 -- A contract's pairing method has the tick that it rounds to. Assumes nothing.
-use Prim.Native.Nat.{ℕ, _≤_}
+use Rattle.laws.specs.Numbers.{ℕ, _≤_}
 use Rattle.rules.specs.Matching.{methodOf}
-use Rattle.rules.specs.declared.Contract.{Contract}
-use Rattle.rules.specs.declared.PairingMethod.{PairingMethod}
+use Rattle.rules.specs.declared.{Contract.Contract, PairingMethod.PairingMethod}
 use Rattle.rules.specs.declared.PairingMethod.the-variants.{Middle, Average, FirstIn}
 use Rattle.rules.proofs.Prices.{RoundsTo, method-rounds}
 use Rattle.prices.specs.Methods.{HasTick}

@@ -1,8 +1,6 @@
 -- The middle of three prices where neither of two others is it. Assumes nothing.
-use mathlib.Core.Logic.{_⊎_, ⊎-elim}
-use mathlib.Core.Path.{_≡_}
-use Prim.Native.Nat.{ℕ, _<_}
-use native.Mathlib.Omega.{arith}
+use Rattle.laws.specs.Logic.{_⊎_, ⊎-elim, _≡_}
+use Rattle.laws.specs.Numbers.{ℕ, _<_, arith}
 use Rattle.rules.specs.Matching.{middle}
 
 -- no ordering has a or c between the other two, so b stands there

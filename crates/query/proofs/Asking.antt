@@ -1,11 +1,7 @@
 -- From the tests as the code makes them to the answer of the rules: an order on a well-formed state, and a record on any. Assumes
 -- nothing.
-use mathlib.Core.Bool.{true, false, not}
-use mathlib.Core.List.{List}
-use mathlib.Core.Path.{_≡_, sym, ap, _∙_}
-use Prim.Native.Nat.{ℕ, _-_}
-use borrow.Author.Tests.{ne-eqb}
-use lib.ListN.{getD}
+use Rattle.laws.specs.Logic.{true, false, not, List, _≡_, sym, ap, _∙_}
+use Rattle.laws.specs.Numbers.{ℕ, _-_, ne-eqb, getD}
 use Rattle.laws.specs.Choice.{pick}
 use Rattle.rules.specs.Answers.{dayWithoutLimit, fillableLots, firstOf, listingOf, takerOf, takerFor, fieldsRefusals}
 use Rattle.rules.specs.Command.{commandOf, isInsert, newOrder}
@@ -13,10 +9,7 @@ use Rattle.rules.specs.Exchange.{Exchange, listingAt, noContract, opposite, pla
 use Rattle.rules.specs.Matching.{sweep, tradedLots}
 use Rattle.rules.specs.Memory.{Memory, exchangeOf, queueIn, wellFormedMemory, memory, WellFormedState}
 use Rattle.rules.specs.declared.Command.the-variants.{Insert}
-use Rattle.rules.specs.declared.NewOrder.{NewOrder}
-use Rattle.rules.specs.declared.Record.{Record}
-use Rattle.rules.specs.declared.State.{State}
-use Rattle.rules.specs.declared.Taker.{Taker}
+use Rattle.rules.specs.declared.{NewOrder.NewOrder, Record.Record, State.State, Taker.Taker}
 use Rattle.rules.proofs.EachKind.{inserts-its-order}
 use Rattle.rules.proofs.Fillable.{swept-fillable}
 use Rattle.engine.specs.Outcome.{AbsentIs}

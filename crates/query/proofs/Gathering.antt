@@ -1,20 +1,12 @@
 -- The reading loop, turn by turn: what is gathered and read so far makes up the answer with what comes from order i on. Assumes
 -- nothing.
-use mathlib.Core.Bool.{true, false}
-use mathlib.Core.List.{List, [], _∷_}
-use mathlib.Core.Path.{_≡_, refl, ap, _∙_}
-use Prim.Native.Nat.{ℕ, _+_, _-_, _<_, _≤_, min}
-use native.Mathlib.Nat.{zero-add}
-use native.Mathlib.Omega.{arith}
-use borrow.Author.Tests.{lt-ltb}
-use lib.Dec.{ltb}
-use lib.ListN.{drop}
+use Rattle.laws.specs.Logic.{true, false, List, [], _∷_, _≡_, refl, ap, _∙_}
+use Rattle.laws.specs.Numbers.{ℕ, _+_, _-_, _<_, _≤_, min, zero-add, arith, lt-ltb, ltb, drop}
 use Rattle.laws.specs.Choice.{pick-true}
 use Rattle.book.specs.EarlyStop.{fillableFront}
 use Rattle.rules.specs.Matching.{counterpart}
 use Rattle.rules.specs.Memory.{orderFrom, queueIn, firstWord}
-use Rattle.rules.specs.declared.Order.{Order}
-use Rattle.rules.specs.declared.Taker.{Taker}
+use Rattle.rules.specs.declared.{Order.Order, Taker.Taker}
 use Rattle.book.proofs.EarlyStop.{front-end, front-met, front-unmet}
 use Rattle.book.proofs.Queues.{tally-none, tally-on, tally-stop, tally-end}
 use Rattle.refusals.specs.Insertion.{Facing}
@@ -93,10 +85,7 @@ module _ (t : Taker) (lots : ℕ) (area : List ℕ) (c count : ℕ) {left i : �
   -- "when the lots are covered"
   pub gather-covered : Facing t area c count → left ≡ 0 → GatheredIs t lots (queueIn area c count) (record { lots = lots; read = i })
   gather-covered f z =
-      record {
-        lots = omega (arith, g .gathered) ∙ ap (min lots) (facing-fillable f);
-        read = tally-none i _ _ (g .read) (rw z (read-covered t _));
-      }
+      record { lots = omega (arith, g .gathered) ∙ ap (min lots) (facing-fillable f); read = tally-none i _ _ (g .read) (rw z (read-covered t _)) }
 
   -- no order is left
   pub gather-end : Facing t area c count → count ≤ i → GatheredIs t lots (queueIn area c count) (record { lots = lots - left; read = i })

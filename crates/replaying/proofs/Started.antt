@@ -1,14 +1,11 @@
 -- The accounts as they stood at the start of the day: their holdings, and those in use. Assumes nothing.
-use mathlib.Core.List.{List, [], _∷_}
-use mathlib.Core.Path.{_≡_, refl, ap, ap₂, _∙_}
-use Prim.Native.Nat.{ℕ, zero, suc}
-use lib.ListN.{getD, List·getD-map}
+use Rattle.laws.specs.Logic.{List, [], _∷_, _≡_, refl, ap, ap₂, _∙_}
+use Rattle.laws.specs.Numbers.{ℕ, zero, suc, getD, List·getD-map}
 use Rattle.laws.specs.Lists.{take-map}
 use Rattle.rules.specs.Exchange.{accountAt, holdingAt, noAccount, noHolding}
 use Rattle.rules.specs.Holdings.{startAccount, startHolding, startOfDay}
 use Rattle.rules.specs.Memory.{used}
-use Rattle.rules.specs.declared.Account.{Account}
-use Rattle.rules.specs.declared.Holding.{Holding}
+use Rattle.rules.specs.declared.{Account.Account, Holding.Holding}
 
 pub start-at : (l : List Account) (a c : ℕ) → holdingAt (startOfDay l) a c ≡ startHolding (holdingAt l a c)
 unfolding startOfDay holdingAt accountAt

@@ -1,10 +1,6 @@
 -- Recorded trades read in turn from their area. Assumes nothing.
-use mathlib.Core.List.{List, [], _∷_}
-use mathlib.Core.Path.{_≡_, sym, ap, _∙_}
-use Prim.Native.Nat.{ℕ, _+_, _*_, _<_, _≤_}
-use native.Mathlib.Numerals.{add-one}
-use lib.ListN.{drop, drop-of-length-le}
-use lib.Seq.{drop-cons}
+use Rattle.laws.specs.Logic.{List, [], _∷_, _≡_, sym, ap, _∙_}
+use Rattle.laws.specs.Numbers.{ℕ, _+_, _*_, _<_, _≤_, add-one, drop, drop-of-length-le, drop-cons}
 use Rattle.rules.specs.Exchange.{noTrade}
 use Rattle.rules.specs.Memory.{tradeFrom, recordedTrades, tradeStride}
 use Rattle.rules.specs.declared.Trade.{Trade}

@@ -1,19 +1,12 @@
 -- The replay of a day's trades over accounts: what a loop over the trades keeps, and what it answers. Assumes nothing.
-use mathlib.Core.Bool.{Bool, true, false, false≢true, _&&_}
-use mathlib.Core.List.{List, [], _∷_}
-use mathlib.Core.Path.{_≡_, refl, sym, subst, ap, _∙_}
-use Prim.Native.Nat.{ℕ, zero, suc, _+_, _-_, _*_, _<_, _≤_}
-use native.Mathlib.Omega.{arith}
-use lib.Dec.{eqb}
-use lib.ListN.{length, getD, set, drop, length-set}
+use Rattle.laws.specs.Logic.{Bool, true, false, _&&_, false≢true, List, [], _∷_, _≡_, refl, sym, ap, subst, _∙_}
+use Rattle.laws.specs.Numbers.{ℕ, zero, suc, _+_, _-_, _*_, _<_, _≤_, arith, eqb, length, getD, set, drop, length-set}
 use Rattle.laws.specs.Choice.{pick}
 use Rattle.rules.specs.Bounds.{maxTrades}
 use Rattle.rules.specs.Exchange.{accountAt, holdingAt, noAccount, noHolding, noTrade}
 use Rattle.rules.specs.Holdings.{afterLeg, bookBuyer, bookLeg, bookSeller, bookTrade, bookTrades, legCovered, neverBelowZero, withHolding, withLong, withShort}
 use Rattle.rules.specs.Memory.{recordedTrades, tradeFrom, used, tradeStride}
-use Rattle.rules.specs.declared.Account.{Account}
-use Rattle.rules.specs.declared.Holding.{Holding}
-use Rattle.rules.specs.declared.Trade.{Trade}
+use Rattle.rules.specs.declared.{Account.Account, Holding.Holding, Trade.Trade}
 use Rattle.rules.proofs.Codecs.{trade-at}
 use Rattle.holdings.specs.Bounds.{HoldingWithin, bookedMost}
 use Rattle.replaying.specs.Parts.{Booked, ReplayIs}
@@ -40,8 +33,7 @@ long-lifted : (h : Holding) (close lots long short : ℕ) → lots ≤ 1_000 →
 unfolding afterLeg
 long-lifted h close lots long short few w = by-close (eqb close 0)
   where
-    by-close : (o : Bool)
-        → (pick o (withLong h (h .long + lots)) (withShort h (h .short - lots)) .long ≤ long + 1_000)
+    by-close : (o : Bool) → (pick o (withLong h (h .long + lots)) (withShort h (h .short - lots)) .long ≤ long + 1_000)
         × (pick o (withLong h (h .long + lots)) (withShort h (h .short - lots)) .short ≤ short)
     by-close true = (omega arith, omega arith)
     by-close false = (omega arith, omega arith)
@@ -51,8 +43,7 @@ short-lifted : (h : Holding) (close lots long short : ℕ) → lots ≤ 1_000 �
 unfolding afterLeg
 short-lifted h close lots long short few w = by-close (eqb close 0)
   where
-    by-close : (o : Bool)
-        → (pick o (withShort h (h .short + lots)) (withLong h (h .long - lots)) .long ≤ long)
+    by-close : (o : Bool) → (pick o (withShort h (h .short + lots)) (withLong h (h .long - lots)) .long ≤ long)
         × (pick o (withShort h (h .short + lots)) (withLong h (h .long - lots)) .short ≤ short + 1_000)
     by-close true = (omega arith, omega arith)
     by-close false = (omega arith, omega arith)
@@ -135,16 +126,7 @@ module _ {list : List Account} {k n : ℕ} {area : List ℕ} {count : ℕ} where
   pub going-first : n ≤ 32 → count ≤ maxTrades → length list ≡ 32
       → ((a c : ℕ) → a < n → c < k → (holdingAt list a c .long ≤ 100_000) × (holdingAt list a c .short ≤ 100_000)) → Going list k n area count list 0
   going-first hn hc m held =
-      record {
-        fit = hn;
-        few = hc;
-        here = omega arith;
-        room = m;
-        bound = record { each = held };
-        covered = refl;
-        booked = refl;
-        whole = refl;
-      }
+      record { fit = hn; few = hc; here = omega arith; room = m; bound = record { each = held }; covered = refl; booked = refl; whole = refl }
 
   -- the buyer's leg: `who` and `place` are the buyer's and the contract's place as code reads them
   module _ {held : List Account} {i : ℕ} (g : Going list k n area count held i) {t : Trade} (h : i < count) (et : t ≡ tradeFrom (drop (tradeStride * i) area)) (b : Booked k n t)

@@ -1,16 +1,11 @@
 -- A leg tested and booked on the account that code reads, and on the accounts in use. Assumes nothing.
-use mathlib.Core.Bool.{Bool, true}
-use mathlib.Core.List.{List, [], _∷_}
-use mathlib.Core.Path.{_≡_, refl, sym, ap, ap₂, _∙_}
-use Prim.Native.Nat.{ℕ, _<_, _≤_}
-use lib.Dec.{leb, eqb}
-use lib.ListN.{length, getD, set}
+use Rattle.laws.specs.Logic.{Bool, true, List, [], _∷_, _≡_, refl, sym, ap, ap₂, _∙_}
+use Rattle.laws.specs.Numbers.{ℕ, _<_, _≤_, eqb, leb, length, getD, set}
 use Rattle.laws.specs.Choice.{pick}
 use Rattle.rules.specs.Exchange.{accountAt, holdingAt, noAccount, noHolding}
 use Rattle.rules.specs.Holdings.{afterLeg, bookLeg, legCovered, withHolding}
 use Rattle.rules.specs.Memory.{used}
-use Rattle.rules.specs.declared.Account.{Account}
-use Rattle.rules.specs.declared.Holding.{Holding}
+use Rattle.rules.specs.declared.{Account.Account, Holding.Holding}
 use Rattle.rules.proofs.InUse.{used-holding, used-leg}
 
 -- a leg on one account is a leg on its place

@@ -1,22 +1,14 @@
 -- What an auction of two sorted queues does: it trades the volume of the chosen price, every trade at that price, which is a resting
 -- one and becomes the last; it fills one side's lots at and through the price; and it leaves both queues sorted and uncrossed.
 -- Assumes nothing.
-use mathlib.Core.Bool.{Bool, true, false, _&&_}
-use mathlib.Core.List.{List, [], _∷_}
-use mathlib.Core.Logic.{_⊎_, inl, inr}
-use mathlib.Core.Path.{_≡_, refl, sym, _∙_}
-use Prim.Native.Nat.{ℕ, _+_, _<_, _≤_}
-use native.Mathlib.Omega.{arith}
-use borrow.Author.Tests.{eq-eqb, eqb-true, lt-ltb, ltb-true, ltb-false}
-use lib.Dec.{ltb, eqb}
-use lib.ListN.{length}
-use Rattle.laws.specs.Choice.{pick, pick-either, pick-true, allOf, allOf-append, allOf-imp, both-true, true-both}
+use Rattle.laws.specs.Logic.{Bool, true, false, _&&_, List, [], _∷_, _⊎_, inl, inr, _≡_, refl, sym, _∙_}
+use Rattle.laws.specs.Numbers.{ℕ, _+_, _<_, _≤_, arith, eqb-true, ltb-true, ltb-false, eq-eqb, lt-ltb, eqb, ltb, length}
+use Rattle.laws.specs.Choice.{pick, pick-either, pick-true, allOf, allOf-append, allOf-imp, both-true, true-both, by-test}
 use Rattle.rules.specs.Auction.{Matched, auctionMatch, auctionPrice, chosenPrice, lotsReaching, matchAt, prices, restingPrices, unmatched, volume}
 use Rattle.rules.specs.AuctionFairness.{oneOf}
 use Rattle.rules.specs.Matching.{lastPrice, tradedLots}
 use Rattle.rules.specs.WellFormed.{sorted, uncrossed}
-use Rattle.rules.specs.declared.Order.{Order}
-use Rattle.rules.specs.declared.Trade.{Trade}
+use Rattle.rules.specs.declared.{Order.Order, Trade.Trade}
 use Rattle.rules.proofs.AuctionPrice.{chosen-largest, chosen-rests, one-passes}
 use Rattle.rules.proofs.AuctionTaken.{Taken, reaching-nil, taken-none}
 use Rattle.rules.proofs.AuctionTraded.{match-filled, match-taken, match-volume, volume-at-most}
@@ -73,11 +65,9 @@ module _ (contract last : ℕ) (buys sells : List Order) where
 
     nothing-left : (m : Matched) → volume (m .buys) (m .sells) price ≡ 0 → (lotsReaching false price (m .buys) ≡ 0) ⊎ (lotsReaching true price (m .sells) ≡ 0)
     unfolding volume
-    nothing-left m z = cases (ltb 0 (lotsReaching false price (m .buys))) refl
-      where
-        cases : (some : Bool) → ltb 0 (lotsReaching false price (m .buys)) ≡ some → (lotsReaching false price (m .buys) ≡ 0) ⊎ (lotsReaching true price (m .sells) ≡ 0)
-        cases true e = let l = ltb-true 0 (lotsReaching false price (m .buys)) e in inr (omega arith)
-        cases false e = let l = ltb-false 0 (lotsReaching false price (m .buys)) e in inl (omega arith)
+    nothing-left m z =
+        by-test (ltb 0 (lotsReaching false price (m .buys))) (λ e. let l = ltb-true 0 (lotsReaching false price (m .buys)) e in inr (omega arith))
+        (λ e. let l = ltb-false 0 (lotsReaching false price (m .buys)) e in inl (omega arith))
 
     -- AT LEAST ONE SIDE'S LOTS AT AND THROUGH THE PRICE ARE FILLED
     pub auction-filled : (lotsReaching false (chosenPrice last buys sells) (auctionMatch contract last buys sells .buys) ≡ 0)

@@ -1,15 +1,8 @@
 -- The price of an auction: a resting price, and no resting price is better by the four steps, so none has a larger volume. There is
 -- only one such price, so it does not matter in which order they are looked at. Assumes nothing.
-use mathlib.Core.Bool.{Bool, true, false, not, _||_, false≢true}
-use mathlib.Core.List.{List, [], _∷_}
-use mathlib.Core.Logic.{_⊎_, inl, inr}
-use mathlib.Core.Path.{_≡_, refl, sym, ap, _∙_}
-use Prim.Native.Nat.{ℕ, _<_, _≤_}
-use native.Mathlib.Omega.{arith}
-use borrow.Author.Tests.{ltb-true, ltb-false, le-ltb, le-leb, eqb-true, eqb-false, eq-eqb, ne-eqb, not-true}
-use lib.Dec.{leb, ltb, eqb}
-use lib.ListN.{length}
-use Rattle.laws.specs.Choice.{pick, pick-true, pick-false, allOf, allOf-imp, both-true, true-both, either-true, true-either}
+use Rattle.laws.specs.Logic.{Bool, true, false, not, _||_, false≢true, List, [], _∷_, _⊎_, inl, inr, _≡_, refl, sym, ap, _∙_}
+use Rattle.laws.specs.Numbers.{ℕ, _<_, _≤_, arith, eqb-true, eqb-false, ltb-true, ltb-false, eq-eqb, ne-eqb, le-leb, le-ltb, not-true, eqb, leb, ltb, length}
+use Rattle.laws.specs.Choice.{pick, pick-true, pick-false, allOf, allOf-imp, both-true, true-both, either-true, true-either, by-test}
 use Rattle.rules.specs.declared.Order.{Order}
 use Rattle.rules.specs.Auction.{apart, bestFrom, bestOf, better, chosenPrice, restingPrices, smaller, surplus, volume}
 use Rattle.rules.specs.AuctionFairness.{oneOf}
@@ -129,17 +122,10 @@ module _ (last : ℕ) (buys sells : List Order) where
 
 module _ (preferred : ℕ → ℕ → Bool) (asym : (p q : ℕ) → preferred p q ≡ true → preferred q p ≡ false)
     (trans : (p q r : ℕ) → preferred q p ≡ false → preferred r q ≡ false → preferred r p ≡ false) where
-  irreflexive : (p : ℕ) → preferred p p ≡ false
-  irreflexive p = cases (preferred p p) refl
-    where
-      cases : (t : Bool) → preferred p p ≡ t → preferred p p ≡ false
-      cases true e = asym p p e
-      cases false e = e
-
   best-from : (first : ℕ) (ps : List ℕ)
       → (preferred first (bestFrom preferred first ps) ≡ false) × (allOf (λ p. not (preferred p (bestFrom preferred first ps))) ps ≡ true)
   unfolding bestFrom allOf
-  best-from first [] = (irreflexive first, refl)
+  best-from first [] = (by-test (preferred first first) (λ e. asym first first e) (λ e. e), refl)
   best-from first (p ∷ ps) = cases (preferred p first) refl (λ k. best-from k ps)
     where
       cases : (t : Bool) → preferred p first ≡ t
@@ -177,8 +163,7 @@ best-from-one preferred first (p ∷ ps) = cases (preferred p first) refl (λ k.
   where
     cases : (t : Bool) → preferred p first ≡ t → ((k : ℕ) → oneOf (k ∷ ps) (bestFrom preferred k ps) ≡ true)
         → oneOf (first ∷ p ∷ ps) (bestFrom preferred (pick (preferred p first) p first) ps) ≡ true
-    cases true e ih =
-        rw (pick-true (preferred p first) p first e) (either-true (eqb first (bestFrom preferred p ps)) _ (ih p))
+    cases true e ih = rw (pick-true (preferred p first) p first e) (either-true (eqb first (bestFrom preferred p ps)) _ (ih p))
     cases false e ih =
         rw (pick-false (preferred p first) p first e)
         (one-behind (eqb first (bestFrom preferred first ps)) (eqb p (bestFrom preferred first ps)) (oneOf ps (bestFrom preferred first ps)) (ih first))

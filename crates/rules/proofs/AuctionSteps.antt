@@ -1,11 +1,7 @@
 -- What auction changes of an insert and of a change of state. In every other state the order is entered by the sweep, and a change of
 -- state changes nothing else. Assumes nothing.
-use mathlib.Core.Bool.{Bool, true, false, _&&_}
-use mathlib.Core.List.{List, [], _∷_, append-nil}
-use mathlib.Core.Path.{_≡_, refl, ap}
-use Prim.Native.Nat.{ℕ, _-_, min}
-use lib.Dec.{ltb}
-use lib.ListN.{length}
+use Rattle.laws.specs.Logic.{Bool, true, false, _&&_, List, [], _∷_, append-nil, _≡_, refl, ap}
+use Rattle.laws.specs.Numbers.{ℕ, _-_, min, ltb, length}
 use Rattle.laws.specs.Choice.{pick, pick-either, pick-false}
 use Rattle.rules.specs.Answers.{isGoodForDay, listingOf, takerOf, tradesNeeded, tradesAgainst}
 use Rattle.rules.specs.Auction.{Matched, matchOf, unmatched}
@@ -15,9 +11,7 @@ use Rattle.rules.specs.FairCommands.{auctionOf}
 use Rattle.rules.specs.Holdings.{bookTrades}
 use Rattle.rules.specs.Matching.{Entered, Swept, afterTrade, counterpart, enter, lastPrice, restWhole, stays, sweep, tradePrice, tradeWith, untouched}
 use Rattle.rules.specs.Step.{accepted, enteredOf, exchangeMatched, limitOf, listingMatched, phaseChanged, withContract, withListing, withPhase}
-use Rattle.rules.specs.declared.NewOrder.{NewOrder}
-use Rattle.rules.specs.declared.Order.{Order}
-use Rattle.rules.specs.declared.Trade.{Trade}
+use Rattle.rules.specs.declared.{NewOrder.NewOrder, Order.Order, Trade.Trade}
 use Rattle.rules.proofs.Fillable.{traded-nil}
 
 -- ---- an insert

@@ -1,14 +1,8 @@
 -- Lots taken from the front of a sorted queue: what stays is sorted, and as far as its first order's price reaches, the lots
 -- taken are lots that were counted there. One law for both sides. Assumes nothing.
-use mathlib.Core.Bool.{Bool, true, false}
-use mathlib.Core.List.{List, [], _∷_, _++_, append-assoc}
-use mathlib.Core.Path.{_≡_, refl, sym, ap, _∙_}
-use Prim.Native.Nat.{ℕ, _+_, _-_, _<_, _≤_}
-use native.Mathlib.Omega.{arith}
-use borrow.Author.Tests.{le-leb, lt-leb, leb-false, ltb-true, ltb-false}
-use lib.Dec.{ltb}
-use lib.ListN.{length}
-use Rattle.laws.specs.Choice.{allOf, both-true, true-both}
+use Rattle.laws.specs.Logic.{Bool, true, false, List, [], _∷_, _++_, append-assoc, _≡_, refl, sym, ap, _∙_}
+use Rattle.laws.specs.Numbers.{ℕ, _+_, _-_, _<_, _≤_, arith, leb-false, ltb-true, ltb-false, le-leb, lt-leb, ltb, length}
+use Rattle.laws.specs.Choice.{allOf, both-true, true-both, by-test}
 use Rattle.laws.specs.Sums.{sumOf, sumOf-cons}
 use Rattle.rules.specs.Matching.{withLots}
 use Rattle.rules.specs.WellFormed.{sorted, numbers, listed}
@@ -50,33 +44,26 @@ module _ (sell : Bool) (price : ℕ) where
 
   -- where any lots of a sorted queue reach a price, its first order does
   pub first-reaches : (o : Order) (os : List Order) → sorted sell (o ∷ os) ≡ true → 0 < lotsReaching sell price (o ∷ os) → reaches sell price o ≡ true
-  first-reaches o os s h = cases (reaches sell price o) refl
-    where
-      cases : (met : Bool) → reaches sell price o ≡ met → reaches sell price o ≡ true
-      cases true e = e
-      cases false e = absurd (omega (arith, reaching-unmet o os e, none-reach o os (sorted-behind sell o os s) e))
+  first-reaches o os s h =
+      by-test (reaches sell price o) (λ e. e)
+      (λ e. absurd (omega (arith, reaching-unmet o os e, none-reach o os (sorted-behind sell o os s) e)))
 
   -- the lots that the first order trades are taken from them
   pub reaching-less : (n : ℕ) (o : Order) (os : List Order) → n ≤ o .lots → reaches sell price o ≡ true
       → lotsReaching sell price (o ∷ os) ≡ n + lotsReaching sell price (lessFirst n o os)
-  reaching-less n o os h e = cases (ltb n (o .lots)) refl
-    where
-      cases : (short : Bool) → ltb n (o .lots) ≡ short → lotsReaching sell price (o ∷ os) ≡ n + lotsReaching sell price (lessFirst n o os)
-      cases true k =
-          let l = ltb-true n (o .lots) k in
-          rw (less-part n o os l) (omega (arith, reaching-met o os e, reaching-met (withLots o (o .lots - n)) os e))
-      cases false k =
-          let l = ltb-false n (o .lots) k in
-          rw (less-filled n o os l) (omega (arith, reaching-met o os e))
+  reaching-less n o os h e =
+      by-test (ltb n (o .lots))
+      (λ k. let l = ltb-true n (o .lots) k in
+      rw (less-part n o os l) (omega (arith, reaching-met o os e, reaching-met (withLots o (o .lots - n)) os e)))
+      (λ k. let l = ltb-false n (o .lots) k in
+      rw (less-filled n o os l) (omega (arith, reaching-met o os e)))
 
 -- ---- the order of what stays
 
 pub less-sorted : (sell : Bool) (n : ℕ) (o : Order) (os : List Order) → sorted sell (o ∷ os) ≡ true → sorted sell (lessFirst n o os) ≡ true
-less-sorted sell n o os s = cases (ltb n (o .lots)) refl
-  where
-    cases : (short : Bool) → ltb n (o .lots) ≡ short → sorted sell (lessFirst n o os) ≡ true
-    cases true k = rw (less-part n o os (ltb-true n (o .lots) k)) (sorted-lots sell o (o .lots - n) os ∙ s)
-    cases false k = rw (less-filled n o os (ltb-false n (o .lots) k)) (sorted-tail sell o os s)
+less-sorted sell n o os s =
+    by-test (ltb n (o .lots)) (λ k. rw (less-part n o os (ltb-true n (o .lots) k)) (sorted-lots sell o (o .lots - n) os ∙ s))
+    (λ k. rw (less-filled n o os (ltb-false n (o .lots) k)) (sorted-tail sell o os s))
 
 -- ---- lots taken from the front
 
@@ -104,21 +91,17 @@ abbrev pub LessWithFewer : (Order → ℕ) → Type 0
 LessWithFewer f = (o : Order) (n : ℕ) → 0 < n → n ≤ o .lots → f (withLots o n) ≤ f o
 
 less-sum : (n : ℕ) (o : Order) (os : List Order) (f : Order → ℕ) → LessWithFewer f → sumOf f (lessFirst n o os) ≤ sumOf f (o ∷ os)
-less-sum n o os f k = cases (ltb n (o .lots)) refl
-  where
-    cases : (short : Bool) → ltb n (o .lots) ≡ short → sumOf f (lessFirst n o os) ≤ sumOf f (o ∷ os)
-    cases true e =
-        let l = ltb-true n (o .lots) e in
-        rw (less-part n o os l) (omega (arith, sumOf-cons f (withLots o (o .lots - n)) os, sumOf-cons f o os, k o (o .lots - n) (omega arith) (omega arith)))
-    cases false e = rw (less-filled n o os (ltb-false n (o .lots) e)) (omega (arith, sumOf-cons f o os))
+less-sum n o os f k =
+    by-test (ltb n (o .lots))
+    (λ e. let l = ltb-true n (o .lots) e in
+    rw (less-part n o os l) (omega (arith, sumOf-cons f (withLots o (o .lots - n)) os, sumOf-cons f o os, k o (o .lots - n) (omega arith) (omega arith))))
+    (λ e. rw (less-filled n o os (ltb-false n (o .lots) e)) (omega (arith, sumOf-cons f o os)))
 
 less-numbers : (n : ℕ) (o : Order) (os : List Order) → (gone : List ℕ) × (numbers (o ∷ os) ≡ gone ++ numbers (lessFirst n o os))
 unfolding listed
-less-numbers n o os = cases (ltb n (o .lots)) refl
-  where
-    cases : (short : Bool) → ltb n (o .lots) ≡ short → (gone : List ℕ) × (numbers (o ∷ os) ≡ gone ++ numbers (lessFirst n o os))
-    cases true e = rw (less-part n o os (ltb-true n (o .lots) e)) ([], refl)
-    cases false e = rw (less-filled n o os (ltb-false n (o .lots) e)) (o .number ∷ [], refl)
+less-numbers n o os =
+    by-test (ltb n (o .lots)) (λ e. rw (less-part n o os (ltb-true n (o .lots) e)) ([], refl))
+    (λ e. rw (less-filled n o os (ltb-false n (o .lots) e)) (o .number ∷ [], refl))
 
 -- the lots are taken from the front of a queue, and of the orders nothing else is changed
 pub record Taken (sell : Bool) (lots : ℕ) (before after : List Order) : Type 0 where
@@ -149,11 +132,9 @@ module _ (sell : Bool) (o : Order) (os : List Order) (s : sorted sell (o ∷ os)
   second-behind (p ∷ ps) price (h, t) r = behind-trans sell price (p .price) (o .price) r h
 
   less-first : (n price : ℕ) → FirstReaches sell price (lessFirst n o os) → Behind sell price (o .price)
-  less-first n price = cases (ltb n (o .lots)) refl
-    where
-      cases : (short : Bool) → ltb n (o .lots) ≡ short → FirstReaches sell price (lessFirst n o os) → Behind sell price (o .price)
-      cases true k = rw (less-part n o os (ltb-true n (o .lots) k)) (λ r. r)
-      cases false k = rw (less-filled n o os (ltb-false n (o .lots) k)) (second-behind os price (sorted-behind sell o os s))
+  less-first n price =
+      by-test (ltb n (o .lots)) (λ k. rw (less-part n o os (ltb-true n (o .lots) k)) (λ r. r))
+      (λ k. rw (less-filled n o os (ltb-false n (o .lots) k)) (second-behind os price (sorted-behind sell o os s)))
 
   pub taken-first : (n : ℕ) → n ≤ o .lots → Taken sell n (o ∷ os) (lessFirst n o os)
   taken-first n h =

@@ -1,18 +1,12 @@
 -- What an auction's match trades: the volume of its price, taken from the front of both queues, so that of one side nothing is left
 -- that reaches the price. Assumes nothing.
-use mathlib.Core.Bool.{Bool, true, false, true≢false}
-use mathlib.Core.List.{List, [], _∷_}
-use mathlib.Core.Path.{_≡_, refl, sym, _∙_}
-use Prim.Native.Nat.{ℕ, _+_, _≤_}
-use native.Mathlib.Omega.{arith}
-use borrow.Author.Tests.{ltb-true, ltb-false}
-use lib.Dec.{ltb}
-use Rattle.laws.specs.Choice.{true-both}
+use Rattle.laws.specs.Logic.{true, false, true≢false, List, [], _∷_, _≡_, refl, sym, _∙_}
+use Rattle.laws.specs.Numbers.{ℕ, _+_, _≤_, arith, ltb-true, ltb-false, ltb}
+use Rattle.laws.specs.Choice.{true-both, by-test}
 use Rattle.rules.specs.Auction.{lotsReaching, matchAt, paired, reaches, tradeAt, volume}
 use Rattle.rules.specs.Matching.{tradedLots}
 use Rattle.rules.specs.WellFormed.{sorted}
-use Rattle.rules.specs.declared.Order.{Order}
-use Rattle.rules.specs.declared.Trade.{Trade}
+use Rattle.rules.specs.declared.{Order.Order, Trade.Trade}
 use Rattle.rules.proofs.AuctionTaken.{reaching-nil, first-reaches, reaching-less, less-sorted, Taken, taken-none, taken-first, taken-more}
 use Rattle.rules.proofs.AuctionTurns.{Apart, match-ind}
 use Rattle.rules.proofs.Fillable.{traded-nil, traded-cons}
@@ -35,16 +29,14 @@ volume-at-most bs ss price = (omega arith, omega arith)
 apart-none : (price : ℕ) (bs ss : List Order) → sorted false bs ≡ true → sorted true ss ≡ true → Apart price bs ss → volume bs ss price ≡ 0
 apart-none price [] ss x y a = omega (arith, reaching-nil false price, volume-at-most [] ss price .0)
 apart-none price (b ∷ bs) [] x y a = omega (arith, reaching-nil true price, volume-at-most (b ∷ bs) [] price .1)
-apart-none price (b ∷ bs) (s ∷ ss) x y a = cases (ltb 0 (volume (b ∷ bs) (s ∷ ss) price)) refl
-  where
-    cases : (some : Bool) → ltb 0 (volume (b ∷ bs) (s ∷ ss) price) ≡ some → volume (b ∷ bs) (s ∷ ss) price ≡ 0
-    cases false e = omega (arith, ltb-false 0 (volume (b ∷ bs) (s ∷ ss) price) e)
-    cases true e =
-        let l = ltb-true 0 (volume (b ∷ bs) (s ∷ ss) price) e in
-        let v = volume-at-most (b ∷ bs) (s ∷ ss) price in
-        let f = first-reaches false price b bs x (omega arith) in
-        let g = first-reaches true price s ss y (omega arith) in
-        absurd (true≢false (sym (true-both (reaches false price b) (reaches true price s) f g) ∙ a))
+apart-none price (b ∷ bs) (s ∷ ss) x y a =
+    by-test (ltb 0 (volume (b ∷ bs) (s ∷ ss) price))
+    (λ e. let l = ltb-true 0 (volume (b ∷ bs) (s ∷ ss) price) e in
+    let v = volume-at-most (b ∷ bs) (s ∷ ss) price in
+    let f = first-reaches false price b bs x (omega arith) in
+    let g = first-reaches true price s ss y (omega arith) in
+    absurd (true≢false (sym (true-both (reaches false price b) (reaches true price s) f g) ∙ a)))
+    (λ e. omega (arith, ltb-false 0 (volume (b ∷ bs) (s ∷ ss) price) e))
 
 -- lots taken from both sides are taken from it
 volume-less : (bs ss bs′ ss′ : List Order) (price n : ℕ) → lotsReaching false price bs ≡ n + lotsReaching false price bs′

@@ -1,15 +1,9 @@
 -- Every trade of an auction's match: what holds of a trade with any two orders that reach the price holds of each. Assumes nothing.
-use mathlib.Core.Bool.{Bool, true, false}
-use mathlib.Core.List.{List, [], _∷_}
-use mathlib.Core.Path.{_≡_, refl}
-use Prim.Native.Nat.{ℕ, _<_, _≤_}
-use native.Mathlib.Omega.{arith}
-use borrow.Author.Tests.{eq-eqb}
-use lib.Dec.{eqb}
+use Rattle.laws.specs.Logic.{Bool, true, false, List, [], _∷_, _≡_, refl}
+use Rattle.laws.specs.Numbers.{ℕ, _<_, _≤_, arith, eq-eqb, eqb}
 use Rattle.laws.specs.Choice.{allOf, both-true, true-both}
 use Rattle.rules.specs.Auction.{matchAt, paired, reaches, tradeAt}
-use Rattle.rules.specs.declared.Order.{Order}
-use Rattle.rules.specs.declared.Trade.{Trade}
+use Rattle.rules.specs.declared.{Order.Order, Trade.Trade}
 use Rattle.rules.proofs.AuctionTaken.{KeptWithFewer, less-kept}
 use Rattle.rules.proofs.AuctionTurns.{match-ind}
 

@@ -1,17 +1,10 @@
 -- The auction's match turn by turn, and an induction by which a theorem about every match is two short cases. Assumes nothing.
-use mathlib.Core.Bool.{Bool, true, false, _&&_}
-use mathlib.Core.List.{List, [], _∷_}
-use mathlib.Core.Path.{_≡_, refl, ap, _∙_}
-use Prim.Native.Nat.{ℕ, zero, suc, _+_, _-_, _<_, _≤_}
-use native.Mathlib.Omega.{arith}
-use borrow.Author.Tests.{ltb-true, ltb-false}
-use lib.Dec.{ltb}
-use lib.ListN.{length}
-use Rattle.laws.specs.Choice.{pick, pick-true, pick-false, both-true, true-both}
+use Rattle.laws.specs.Logic.{Bool, true, false, _&&_, List, [], _∷_, _≡_, refl, ap, _∙_}
+use Rattle.laws.specs.Numbers.{ℕ, zero, suc, _+_, _-_, _<_, _≤_, arith, ltb-true, ltb-false, ltb, length}
+use Rattle.laws.specs.Choice.{pick, pick-true, pick-false, both-true, true-both, by-test}
 use Rattle.rules.specs.Auction.{Matched, afterMatch, lessFirst, matchAt, matchIn, paired, reaches, tradeAt, unmatched}
 use Rattle.rules.specs.Matching.{withLots}
-use Rattle.rules.specs.declared.Order.{Order}
-use Rattle.rules.specs.declared.Trade.{Trade}
+use Rattle.rules.specs.declared.{Order.Order, Trade.Trade}
 use Rattle.rules.proofs.Sweep.{stays-none, stays-some}
 
 -- ---- a queue whose first order has traded
@@ -23,11 +16,9 @@ pub less-part : (n : ℕ) (o : Order) (os : List Order) → n < o .lots → less
 less-part n o os h = rw (stays-some o (o .lots - n) (omega arith))
 
 pub length-less : (n : ℕ) (o : Order) (os : List Order) → length (lessFirst n o os) ≤ suc (length os)
-length-less n o os = cases (ltb n (o .lots)) refl
-  where
-    cases : (short : Bool) → ltb n (o .lots) ≡ short → length (lessFirst n o os) ≤ suc (length os)
-    cases true e = rw (less-part n o os (ltb-true n (o .lots) e)) (omega arith)
-    cases false e = rw (less-filled n o os (ltb-false n (o .lots) e)) (omega arith)
+length-less n o os =
+    by-test (ltb n (o .lots)) (λ e. rw (less-part n o os (ltb-true n (o .lots) e)) (omega arith))
+    (λ e. rw (less-filled n o os (ltb-false n (o .lots) e)) (omega arith))
 
 -- ---- one turn
 
@@ -45,8 +36,7 @@ match-apart (suc turns) contract price (b ∷ bs) [] a = refl
 match-apart (suc turns) contract price (b ∷ bs) (s ∷ ss) a = pick-false (reaches false price b && reaches true price s) _ _ a
 
 match-turn : (turns contract price : ℕ) (b : Order) (bs : List Order) (s : Order) (ss : List Order)
-    → (reaches false price b && reaches true price s) ≡ true
-    → matchIn (suc turns) contract price (b ∷ bs) (s ∷ ss)
+    → (reaches false price b && reaches true price s) ≡ true → matchIn (suc turns) contract price (b ∷ bs) (s ∷ ss)
     ≡ afterMatch (tradeAt contract price (paired b s) b s) (matchIn turns contract price (lessFirst (paired b s) b bs) (lessFirst (paired b s) s ss))
 unfolding matchIn
 match-turn turns contract price b bs s ss met = pick-true (reaches false price b && reaches true price s) _ _ met
@@ -54,16 +44,13 @@ match-turn turns contract price b bs s ss met = pick-true (reaches false price b
 -- every turn fills an order
 fills-one : (turns : ℕ) (b : Order) (bs : List Order) (s : Order) (ss : List Order) → suc (length bs) + suc (length ss) ≤ suc turns
     → length (lessFirst (paired b s) b bs) + length (lessFirst (paired b s) s ss) ≤ turns
-fills-one turns b bs s ss h = cases (ltb (paired b s) (b .lots)) refl
-  where
-    cases : (short : Bool) → ltb (paired b s) (b .lots) ≡ short → length (lessFirst (paired b s) b bs) + length (lessFirst (paired b s) s ss) ≤ turns
-    cases true e =
-        let l = ltb-true (paired b s) (b .lots) e in
-        let k = length-less (paired b s) b bs in
-        rw (less-filled (paired b s) s ss (omega arith)) (omega arith)
-    cases false e =
-        let k = length-less (paired b s) s ss in
-        rw (less-filled (paired b s) b bs (ltb-false (paired b s) (b .lots) e)) (omega arith)
+fills-one turns b bs s ss h =
+    by-test (ltb (paired b s) (b .lots))
+    (λ e. let l = ltb-true (paired b s) (b .lots) e in
+    let k = length-less (paired b s) b bs in
+    rw (less-filled (paired b s) s ss (omega arith)) (omega arith))
+    (λ e. let k = length-less (paired b s) s ss in
+    rw (less-filled (paired b s) b bs (ltb-false (paired b s) (b .lots) e)) (omega arith))
 
 -- a trade a turn at most
 match-in-trades : (turns contract price : ℕ) (bs ss : List Order) → length (matchIn turns contract price bs ss .trades) ≤ turns
@@ -92,14 +79,12 @@ match-count contract price bs ss = match-in-trades (length bs + length ss) contr
 module _ (contract price : ℕ) (P : List Order → List Order → Matched → Type 0)
     (stop : (bs ss : List Order) → Apart price bs ss → P bs ss (unmatched bs ss))
     (turn : (b : Order) (bs : List Order) (s : Order) (ss : List Order) (m : Matched)
-    → reaches false price b ≡ true → reaches true price s ≡ true
-    → P (lessFirst (paired b s) b bs) (lessFirst (paired b s) s ss) m
+    → reaches false price b ≡ true → reaches true price s ≡ true → P (lessFirst (paired b s) b bs) (lessFirst (paired b s) s ss) m
     → P (b ∷ bs) (s ∷ ss) (afterMatch (tradeAt contract price (paired b s) b s) m)) where
   ended : (turns : ℕ) (bs ss : List Order) → Apart price bs ss → P bs ss (matchIn turns contract price bs ss)
   ended turns bs ss a = rw (match-apart turns contract price bs ss a) (stop bs ss a)
 
-  two : (turns : ℕ) (b : Order) (bs : List Order) (s : Order) (ss : List Order) (met : Bool)
-      → (reaches false price b && reaches true price s) ≡ met
+  two : (turns : ℕ) (b : Order) (bs : List Order) (s : Order) (ss : List Order) (met : Bool) → (reaches false price b && reaches true price s) ≡ met
       → P (lessFirst (paired b s) b bs) (lessFirst (paired b s) s ss) (matchIn turns contract price (lessFirst (paired b s) b bs) (lessFirst (paired b s) s ss))
       → P (b ∷ bs) (s ∷ ss) (matchIn (suc turns) contract price (b ∷ bs) (s ∷ ss))
   two turns b bs s ss false e ih = ended (suc turns) (b ∷ bs) (s ∷ ss) e
@@ -124,8 +109,7 @@ module _ (contract price : ℕ) where
   stops : (bs ss : List Order) → Apart price bs ss → (turns : ℕ) → length bs + length ss ≤ turns → matchIn turns contract price bs ss ≡ unmatched bs ss
   stops bs ss a turns h = match-apart turns contract price bs ss a
 
-  goes-on : (b : Order) (bs : List Order) (s : Order) (ss : List Order) (m : Matched)
-      → reaches false price b ≡ true → reaches true price s ≡ true
+  goes-on : (b : Order) (bs : List Order) (s : Order) (ss : List Order) (m : Matched) → reaches false price b ≡ true → reaches true price s ≡ true
       → ((turns : ℕ) → length (lessFirst (paired b s) b bs) + length (lessFirst (paired b s) s ss) ≤ turns
       → matchIn turns contract price (lessFirst (paired b s) b bs) (lessFirst (paired b s) s ss) ≡ m)
       → (turns : ℕ) → length (b ∷ bs) + length (s ∷ ss) ≤ turns
@@ -147,8 +131,7 @@ module _ (contract price : ℕ) where
 
   -- or the two best orders trade, and it goes on behind them
   pub match-at-turn : (b : Order) (bs : List Order) (s : Order) (ss : List Order)
-      → reaches false price b ≡ true → reaches true price s ≡ true
-      → matchAt contract price (b ∷ bs) (s ∷ ss)
+      → reaches false price b ≡ true → reaches true price s ≡ true → matchAt contract price (b ∷ bs) (s ∷ ss)
       ≡ afterMatch (tradeAt contract price (paired b s) b s) (matchAt contract price (lessFirst (paired b s) b bs) (lessFirst (paired b s) s ss))
   unfolding matchAt
   match-at-turn b bs s ss f g =

@@ -1,14 +1,9 @@
 -- THE BOOK IS UNCROSSED AFTER THE AUCTION: a match of the largest volume leaves it so. Were a buy left at b and a sell at s with s
 -- not above b, then at b all lots traded on either side would count, and the lots left of these two orders besides: the volume at b,
 -- a resting price, would be larger than what was traded, which is the largest. Assumes nothing.
-use mathlib.Core.Bool.{Bool, true, false}
-use mathlib.Core.List.{List, [], _∷_}
-use mathlib.Core.Path.{_≡_, refl}
-use Prim.Native.Nat.{ℕ, _<_, _≤_}
-use native.Mathlib.Omega.{arith}
-use borrow.Author.Tests.{leb-true, ltb-true, ltb-false, lt-ltb}
-use lib.Dec.{leb, ltb}
-use Rattle.laws.specs.Choice.{allOf, allOf-append, both-true, true-both}
+use Rattle.laws.specs.Logic.{Bool, true, false, List, [], _∷_, _≡_, refl}
+use Rattle.laws.specs.Numbers.{ℕ, _<_, _≤_, arith, leb-true, ltb-true, ltb-false, lt-ltb, leb, ltb}
+use Rattle.laws.specs.Choice.{allOf, allOf-append, both-true, true-both, by-test}
 use Rattle.rules.specs.Auction.{lotsReaching, matchAt, prices, restingPrices, volume}
 use Rattle.rules.specs.WellFormed.{sorted, uncrossed}
 use Rattle.rules.specs.declared.Order.{Order}
@@ -59,17 +54,14 @@ module _ (buys sells : List Order) (price : ℕ) (most : Largest buys sells pric
   unfolding uncrossed
   uncrossed-after n [] ss v t u = refl
   uncrossed-after n (b ∷ bs) [] v t u = refl
-  uncrossed-after n (b ∷ bs) (s ∷ ss) v t u = cases (ltb (b .price) (s .price)) refl
-    where
-      cases : (below : Bool) → ltb (b .price) (s .price) ≡ below → ltb (b .price) (s .price) ≡ true
-      cases true e = e
-      cases false e =
-          let p = b .price in
-          let h : s .price ≤ p = ltb-false p (s .price) e in
-          let x : n < lotsReaching false p buys
-          = omega (arith, t .counted p (behind-refl false p), first-counts false p b bs (behind-refl false p), some-left false n buys b bs buying t) in
-          let y : n < lotsReaching true p sells = omega (arith, u .counted p h, first-counts true p s ss h, some-left true n sells s ss selling u) in
-          absurd (omega (arith, volume-above buys sells p n x y, no-more n b bs t))
+  uncrossed-after n (b ∷ bs) (s ∷ ss) v t u =
+      by-test (ltb (b .price) (s .price)) (λ e. e)
+      (λ e. let p = b .price in
+      let h : s .price ≤ p = ltb-false p (s .price) e in
+      let x : n < lotsReaching false p buys
+      = omega (arith, t .counted p (behind-refl false p), first-counts false p b bs (behind-refl false p), some-left false n buys b bs buying t) in
+      let y : n < lotsReaching true p sells = omega (arith, u .counted p h, first-counts true p s ss h, some-left true n sells s ss selling u) in
+      absurd (omega (arith, volume-above buys sells p n x y, no-more n b bs t)))
 
   pub match-uncrosses : (contract : ℕ) → sorted false buys ≡ true → sorted true sells ≡ true
       → uncrossed (matchAt contract price buys sells .buys) (matchAt contract price buys sells .sells) ≡ true

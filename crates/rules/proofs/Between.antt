@@ -1,19 +1,13 @@
 -- "All three lie between sell and buy, which is to be shown once for any method" (document 02, ticket 6), of every trade of a limit
 -- order's sweep; trade i of any sweep is with order i. Assumes nothing.
-use mathlib.Core.Bool.{Bool, true, false, not}
-use mathlib.Core.List.{List, [], _∷_}
-use mathlib.Core.Path.{_≡_, refl}
-use Prim.Native.Nat.{ℕ, zero, suc, _<_, _≤_}
-use native.Mathlib.Omega.{arith}
-use lib.ListN.{length}
+use Rattle.laws.specs.Logic.{Bool, true, false, not, List, [], _∷_, _≡_, refl}
+use Rattle.laws.specs.Numbers.{ℕ, zero, suc, _<_, _≤_, arith, length}
 use Rattle.laws.specs.Choice.{allOf, both-true, pick}
 use Rattle.rules.specs.Bounds.{onTick}
 use Rattle.rules.specs.Fairness.{AllBetween, BetweenSellAndBuy, TradedInTurn, accountOn, orderAt, orderOn, tradeOf}
 use Rattle.rules.specs.Matching.{counterpart, meets, sweep, tradeWith}
-use Rattle.rules.specs.declared.Order.{Order}
+use Rattle.rules.specs.declared.{Order.Order, Taker.Taker, Trade.Trade}
 use Rattle.rules.specs.declared.PriceCondition.the-variants.{Limit}
-use Rattle.rules.specs.declared.Taker.{Taker}
-use Rattle.rules.specs.declared.Trade.{Trade}
 use Rattle.rules.proofs.Prices.{RoundsTo, price-between}
 use Rattle.rules.proofs.Sweep.{sweep-ind, trade-price}
 

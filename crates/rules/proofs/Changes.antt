@@ -1,14 +1,9 @@
 -- A change of a resting order is one of four: zero lots, the place lost, equal, the place kept. What is done when the place is lost
 -- is one listing replaced, with trades. Assumes nothing.
-use mathlib.Core.Bool.{Bool, true, false, true≢false}
-use mathlib.Core.List.{List, []}
-use mathlib.Core.Path.{_≡_, refl, sym, ap, _∙_}
-use Prim.Native.Nat.{ℕ, _+_, _<_, _≤_}
-use native.Mathlib.Omega.{arith}
-use borrow.Author.Tests.{eqb-true, eq-eqb, ne-eqb, le-ltb}
-use lib.Dec.{eqb}
 use lib.Seq.{set-set}
-use Rattle.laws.specs.Choice.{pick}
+use Rattle.laws.specs.Logic.{Bool, true, false, true≢false, List, [], _≡_, refl, sym, ap, _∙_}
+use Rattle.laws.specs.Numbers.{ℕ, _+_, _<_, _≤_, arith, eqb-true, eq-eqb, ne-eqb, le-ltb, eqb}
+use Rattle.laws.specs.Choice.{pick, by-test}
 use Rattle.rules.specs.Answers.{listingOf}
 use Rattle.rules.specs.Change.{Asked, arriving, asked, changeTrades, changed, gone, isSell, listingLessened, losesPlace, oldOrder, placeKept, placeLost, reentered, unchanged}
 use Rattle.rules.specs.Exchange.{Exchange, Listing, listingNamed, placeOf}
@@ -27,15 +22,10 @@ module _ (x : Exchange) (k : Asked) where
   -- "more lots or another price lose it"
   pub lost-changed : losesPlace x k ≡ true → changed x k ≡ placeLost x k
   unfolding changed
-  lost-changed h = by-lots (eqb (k .lots) 0) refl
-    where
-      by-lots : (zeros : Bool) → eqb (k .lots) 0 ≡ zeros → changed x k ≡ placeLost x k
-      by-lots true e = absurd (true≢false (sym h ∙ zero-keeps-none e))
-      by-lots false e = rw (e, h)
+  lost-changed h = by-test (eqb (k .lots) 0) (λ e. absurd (true≢false (sym h ∙ zero-keeps-none e))) (λ e. rw (e, h))
 
   -- which of the four it is, with the trades that it makes
-  pub changed-either : (P : List Trade → Effect → Type 0)
-      → (k .lots ≡ 0 → P [] (cancelled x (placeOf (k .contract)) (k .number)))
+  pub changed-either : (P : List Trade → Effect → Type 0) → (k .lots ≡ 0 → P [] (cancelled x (placeOf (k .contract)) (k .number)))
       → (losesPlace x k ≡ true → P (reentered x k .trades) (placeLost x k))
       → (losesPlace x k ≡ false → k .lots ≡ oldOrder x k .lots → P [] (unchanged x k))
       → (eqb (k .lots) 0 ≡ false → losesPlace x k ≡ false → eqb (k .lots) (oldOrder x k .lots) ≡ false → P [] (placeKept x k))
@@ -72,8 +62,7 @@ replaced-twice x c l m ts next nextstamp =
     }) (set-set (x .listings) c l m)
 
 -- the order gone, then entered: one listing replaced, with its trades
-pub lost-once : (x : Exchange) (k : Asked) (e : Entered) (next : ℕ)
-    → exchangeAfter (gone x k) (arriving x k) e next
+pub lost-once : (x : Exchange) (k : Asked) (e : Entered) (next : ℕ) → exchangeAfter (gone x k) (arriving x k) e next
     ≡ withTrades x (placeOf (k .contract)) (listingAfter (listingNamed (gone x k) (k .contract)) (isSell x k) e) (e .trades) next (x .nextstamp + 1)
 unfolding exchangeAfter listingOf gone arriving
 lost-once x k e next =

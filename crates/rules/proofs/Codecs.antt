@@ -1,17 +1,12 @@
 -- Orders and trades as they lie in the areas: their codecs, and the laws of records written over as many places as were in
 -- use, for a queue and for the day's trades. Assumes nothing.
-use mathlib.Core.Bool.{Bool, true, false}
-use mathlib.Core.List.{List, [], _++_, append-assoc, append-nil}
-use mathlib.Core.Logic.{_⊎_, inl, inr, ⊎-elim}
-use mathlib.Core.Path.{_≡_, refl, sym, ap, _∙_}
-use Prim.Native.Nat.{ℕ, zero, suc, _+_, _-_, _*_, _<_, _≤_, max}
-use native.Mathlib.Nat.{add-zero, zero-add, mul-le-mul-left, eq-or-lt-of-le, le-of-suc-le-suc}
-use native.Mathlib.Omega.{arith}
-use borrow.Author.Tests.{leb-true, leb-false, ltb-true, ltb-false, eqb-true, eqb-false}
-use lib.Dec.{leb, ltb, eqb}
-use lib.ListN.{length, getD, take, drop, replicate, length-append, length-take, length-drop, length-replicate, take-append-drop, replicate-append-replicate}
-use lib.Seq.{getD-drop, getD-take}
+use lib.ListN.{replicate-append-replicate}
+use Rattle.laws.specs.Logic.{Bool, true, false, List, [], _++_, append-nil, append-assoc, _⊎_, ⊎-elim, inl, inr, _≡_, refl, sym, ap, _∙_}
+use Rattle.laws.specs.Numbers.{ℕ, zero, suc, _+_, _-_, _*_, _<_, _≤_, max, le-of-suc-le-suc, eq-or-lt-of-le, add-zero, zero-add, mul-le-mul-left, arith}
+use Rattle.laws.specs.Numbers.{eqb-true, eqb-false, leb-true, leb-false, ltb-true, ltb-false, eqb, leb, ltb, length, getD, take, drop, replicate, length-append}
+use Rattle.laws.specs.Numbers.{length-drop, length-replicate, length-take, take-append-drop, getD-take, getD-drop}
 use Rattle.laws.specs.Tabulate.{tabulate, tabulate-take}
+use Rattle.laws.specs.Choice.{by-test}
 use Rattle.areas.specs.Lists.{over, padded}
 use Rattle.areas.specs.Records.{Codec, decode, encode, records, store}
 use Rattle.areas.proofs.Lists.{take-over, drop-over, drop-padded, padded-full}
@@ -19,8 +14,7 @@ use Rattle.areas.proofs.Records.{length-encode, length-records, getD-records, l
 use Rattle.rules.specs.Bounds.{maxResting, maxTrades}
 use Rattle.rules.specs.Exchange.{noOrder, noTrade}
 use Rattle.rules.specs.Memory.{orderWords, orderFrom, tradeWords, tradeFrom, queueIn, recordedTrades, putQueue, putQueues, putTrades, orderStride, queueStride, tradeStride, firstWord, wordOf, tradesWords}
-use Rattle.rules.specs.declared.Order.{Order}
-use Rattle.rules.specs.declared.Trade.{Trade}
+use Rattle.rules.specs.declared.{Order.Order, Trade.Trade}
 
 -- ---- the codecs
 
@@ -99,16 +93,12 @@ module _ {A : Type 0} {W : ℕ} {words : A → List ℕ} {first : List ℕ → A
 
   pub put-put : (a : List ℕ) (base n m : ℕ) (os ps : List A) → length os ≤ m → base ≤ length a
       → store words (store words a base (padded n z os)) base (padded m z ps) ≡ store words a base (padded (max n m) z ps)
-  put-put a base n m os ps h b = by-length (leb n (max m (length ps))) refl
-    where
-      by-length : (t : Bool) → leb n (max m (length ps)) ≡ t
-          → store words (store words a base (padded n z os)) base (padded m z ps) ≡ store words a base (padded (max n m) z ps)
-      by-length true e =
-          let k = leb-true n (max m (length ps)) e in
-          put-longer a base n m os ps (omega arith) b ∙ ap (λ (r : List A). store words a base r) (same-fill m (max n m) z ps (omega arith))
-      by-length false e =
-          let k = leb-false n (max m (length ps)) e in
-          put-shorter a base n m os ps (omega arith) h b ∙ ap (λ (r : List A). store words a base r) (more-fill m n z ps (omega arith))
+  put-put a base n m os ps h b =
+      by-test (leb n (max m (length ps)))
+      (λ e. let k = leb-true n (max m (length ps)) e in
+      put-longer a base n m os ps (omega arith) b ∙ ap (λ (r : List A). store words a base r) (same-fill m (max n m) z ps (omega arith)))
+      (λ e. let k = leb-false n (max m (length ps)) e in
+      put-shorter a base n m os ps (omega arith) h b ∙ ap (λ (r : List A). store words a base r) (more-fill m n z ps (omega arith)))
 
   pub store-more : (a : List ℕ) (base n : ℕ) (os : List A) → base + W * n ≤ length a
       → store words a (base + W * n) os ≡ store words a base (padded n z (records W first a base n ++ os))
@@ -120,8 +110,7 @@ module _ {A : Type 0} {W : ℕ} {words : A → List ℕ} {first : List ℕ → A
 -- ---- a queue read
 
 -- one order's words
-pub order-words : (area : List ℕ) (k : ℕ)
-    → orderFrom (drop k area)
+pub order-words : (area : List ℕ) (k : ℕ) → orderFrom (drop k area)
     ≡ record {
       price = getD area k 0;
       number = getD area (k + 1) 0;
@@ -148,11 +137,9 @@ module _ (area : List ℕ) (c n : ℕ) where
   order-at i h = getD-records order-codec area (queueStride * c) n i noOrder h
 
 pub before-or-after : (c d : ℕ) → (c ≡ d → ⊥) → (c < d) ⊎ (d < c)
-before-or-after c d apart = by-comparison (ltb c d) refl
-  where
-    by-comparison : (b : Bool) → ltb c d ≡ b → (c < d) ⊎ (d < c)
-    by-comparison true e = inl (ltb-true c d e)
-    by-comparison false e = ⊎-elim (λ p. absurd (apart (sym p))) (λ l. inr l) (eq-or-lt-of-le (ltb-false c d e))
+before-or-after c d apart =
+    by-test (ltb c d) (λ e. inl (ltb-true c d e))
+    (λ e. ⊎-elim (λ p. absurd (apart (sym p))) (λ l. inr l) (eq-or-lt-of-le (ltb-false c d e)))
 
 -- ---- a queue written: `room` for 64 orders, and no more than 64 before and after
 
@@ -195,8 +182,7 @@ module _ (area : List ℕ) (c n : ℕ) (q : List Order) where
 
 module _ (area counts : List ℕ) (queues : ℕ → List Order) where
   pub putQueues-same : (n : ℕ) → ((c : ℕ) → c < n → queues c ≡ queueIn area c (getD counts c 0)) → ((c : ℕ) → c < n → getD counts c 0 ≤ maxResting)
-      → queueStride * n ≤ length area
-      → putQueues area counts queues n ≡ area
+      → queueStride * n ≤ length area → putQueues area counts queues n ≡ area
   unfolding putQueues
   putQueues-same zero same few room = refl
   putQueues-same (suc c) same few room =

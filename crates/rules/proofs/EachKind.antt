@@ -1,16 +1,12 @@
 -- A command by its number and by the tag of the declared enum, the order that an insert's bytes hold, what a command names and where it
 -- works: laws by clauses on the kinds, so that no other proof needs them. Assumes nothing.
-use mathlib.Core.Bool.{Bool, true, false, not, true≢false, false≢true}
-use mathlib.Core.List.{List, [], _∷_, _++_}
-use mathlib.Core.Path.{_≡_, refl, sym, ap, _∙_, subst}
-use Prim.Native.Nat.{ℕ, _+_}
-use native.Mathlib.Omega.{arith}
-use borrow.Author.Tests.{ne-eqb}
 use denote.Enum.Declared.{tagOf}
-use lib.Dec.{T, eqb}
+use lib.Dec.{T}
 use lib.IntN.{ℤ}
 use mir.Val.{hasKey}
 use types.Run.{OneOf, miss}
+use Rattle.laws.specs.Logic.{Bool, true, false, not, true≢false, false≢true, List, [], _∷_, _++_, _≡_, refl, sym, ap, subst, _∙_}
+use Rattle.laws.specs.Numbers.{ℕ, _+_, arith, ne-eqb, eqb}
 use Rattle.laws.specs.Choice.{ap-pick, pick, pick-same}
 use Rattle.rules.specs.Answers.{Refusal, absentRefusals, cancelRefusals, depositRefusals, firstOf, insertRefusals, phaseRefusals, pullRefusals, withdrawRefusals}
 use Rattle.rules.specs.Change.{asked, changeRefusals}
@@ -20,11 +16,9 @@ use Rattle.rules.specs.Kinds.{codeOf, kindOf, lastOf}
 use Rattle.rules.specs.Quote.{offered, quoteRefusals}
 use Rattle.rules.specs.Step.{cancelled, deposited, inserted, paid, phaseChanged, pulled, removed, withdrawn}
 use Rattle.rules.specs.Touches.{isBlank}
-use Rattle.rules.specs.declared.Command.{Command}
+use Rattle.rules.specs.declared.{Command.Command, NewOrder.NewOrder, Trade.Trade}
 use Rattle.rules.specs.declared.Command.the-variants.{Malformed, Deposit, Withdraw, Insert, Cancel, Pull, Phase, Settle, Quote, Change}
-use Rattle.rules.specs.declared.NewOrder.{NewOrder}
 use Rattle.rules.specs.declared.Record.{Record}
-use Rattle.rules.specs.declared.Trade.{Trade}
 use Rattle.rules.proofs.Command.{the-type}
 use Rattle.rules.proofs.InContract.{InContract, changed-in, entered-in, matched-in, quoted-in, relisted-in}
 use Rattle.rules.proofs.Refusals.{both-zero, failed}
@@ -50,8 +44,7 @@ abbrev pub allBut : ℕ → List ℕ
 allBut kind = but kind (0 ∷ 1 ∷ 2 ∷ 3 ∷ 4 ∷ 5 ∷ 6 ∷ 7 ∷ 8 ∷ 9 ∷ [])
 
 pub other-kind : (n : ℕ) → T (not (hasKey (allBut n) n)) → (d : Command) → OneOf (allBut n) (tagOf the-type d) → eqb (kindNumber d) n ≡ false
-other-kind n h d o =
-    ne-eqb (kindNumber d) n (λ (e : kindNumber d ≡ n). miss (allBut n) n h (subst (OneOf (allBut n)) (tag-is d ∙ e) o))
+other-kind n h d o = ne-eqb (kindNumber d) n (λ (e : kindNumber d ≡ n). miss (allBut n) n h (subst (OneOf (allBut n)) (tag-is d ∙ e) o))
 
 pub settle-is : (d : Command) → isSettle d ≡ true → d ≡ Settle
 settle-is Malformed e = absurd (false≢true e)
@@ -81,12 +74,9 @@ orderIn o (Change account contract number lots price) = o
 either-order : (o : NewOrder) (test : Bool) (d e : Command) → orderIn o (pick test d e) ≡ pick test (orderIn o d) (orderIn o e)
 either-order o test d e = ap-pick (orderIn o) test d e
 
-order-in-bytes : (r : Record) → orderIn (newOrder r) (commandOf r) ≡ newOrder r
-unfolding commandOf depositOf withdrawOf insertOf cancelOf pullOf phaseOf settleOf quoteOf changeOf
-order-in-bytes r = simp (either-order, pick-same)
-
 pub inserts-its-order : (r : Record) {o : NewOrder} → commandOf r ≡ Insert o → o ≡ newOrder r
-inserts-its-order r e = ap (orderIn (newOrder r)) (sym e) ∙ order-in-bytes r
+unfolding commandOf depositOf withdrawOf insertOf cancelOf pullOf phaseOf settleOf quoteOf changeOf
+inserts-its-order r e = ap (orderIn (newOrder r)) (sym e) ∙ simp (either-order, pick-same)
 
 -- ---- what a command names
 

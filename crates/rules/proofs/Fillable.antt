@@ -1,21 +1,13 @@
 -- How many lots a sweep trades, and that behind the first order of a sorted queue that is no counterpart there is none. Assumes
 -- nothing.
-use mathlib.Core.Bool.{Bool, true, false, not, true≢false}
-use mathlib.Core.List.{List, [], _∷_}
-use mathlib.Core.Logic.{⊎-elim}
-use mathlib.Core.Path.{_≡_, refl, _∙_}
-use Prim.Native.Nat.{ℕ, _+_, _≤_, min}
-use native.Mathlib.Omega.{arith}
-use borrow.Author.Tests.{leb-false, lt-leb, eqb-false, ne-eqb}
+use Rattle.laws.specs.Logic.{Bool, true, false, not, true≢false, List, [], _∷_, ⊎-elim, _≡_, refl, _∙_}
+use Rattle.laws.specs.Numbers.{ℕ, _+_, _≤_, min, arith, eqb-false, leb-false, ne-eqb, lt-leb}
 use Rattle.laws.specs.Sums.{sumOf}
 use Rattle.rules.specs.Exchange.{bestPrice}
 use Rattle.rules.specs.Matching.{meets, counterpart, fillable, tradeWith, sweep, tradedLots}
 use Rattle.rules.specs.WellFormed.{sorted}
-use Rattle.rules.specs.declared.Order.{Order}
-use Rattle.rules.specs.declared.PriceCondition.{PriceCondition}
+use Rattle.rules.specs.declared.{Order.Order, PriceCondition.PriceCondition, Taker.Taker, Trade.Trade}
 use Rattle.rules.specs.declared.PriceCondition.the-variants.{Limit, Market, Best}
-use Rattle.rules.specs.declared.Taker.{Taker}
-use Rattle.rules.specs.declared.Trade.{Trade}
 use Rattle.rules.proofs.Queue.{lots-nil, lots-met, lots-unmet}
 use Rattle.rules.proofs.Sorted.{Behind, AllBehind, behind-antisym, sorted-tail, sorted-behind, best-first}
 use Rattle.rules.proofs.Sweep.{Unmet, trade-lots, sweep-ind}

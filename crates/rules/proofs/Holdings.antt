@@ -1,20 +1,13 @@
 -- Trades booked to holdings: what a leg changes and what it leaves, bounds, and the replay of a day. Assumes nothing.
-use mathlib.Core.Bool.{Bool, true, false, _&&_, false≢true}
-use mathlib.Core.List.{List, [], _∷_, _++_, map}
-use mathlib.Core.Path.{_≡_, refl, sym, ap, ap₂, _∙_}
-use Prim.Native.Nat.{ℕ, _+_, _-_, _<_, _≤_}
-use borrow.Author.Tests.{eqb-true, eq-eqb, le-leb}
-use lib.Dec.{eqb}
 use lib.IntN.{ℤ}
-use lib.ListN.{length, getD, drop, length-set, List·getD-map}
-use lib.Seq.{getD-set-same, getD-set-other, map-set-same}
+use Rattle.laws.specs.Logic.{Bool, true, false, _&&_, false≢true, List, [], _∷_, _++_, map, _≡_, refl, sym, ap, ap₂, _∙_}
+use Rattle.laws.specs.Numbers.{ℕ, _+_, _-_, _<_, _≤_, eqb-true, eq-eqb, le-leb, eqb, length, getD, drop, length-set, List·getD-map, getD-set-same}
+use Rattle.laws.specs.Numbers.{getD-set-other, map-set-same}
 use Rattle.laws.specs.Choice.{pick, pick-same, allOf, both-true}
 use Rattle.laws.specs.Lists.{kept-at}
 use Rattle.rules.specs.Exchange.{accountAt, holdingAt, noAccount, noHolding}
 use Rattle.rules.specs.Holdings.{withLong, withShort, afterLeg, withHolding, bookLeg, bookBuyer, bookTrade, bookTrades, legCovered, neverBelowZero, startHolding, startAccount, startOfDay, sameLots, sameHoldings}
-use Rattle.rules.specs.declared.Account.{Account}
-use Rattle.rules.specs.declared.Holding.{Holding}
-use Rattle.rules.specs.declared.Trade.{Trade}
+use Rattle.rules.specs.declared.{Account.Account, Holding.Holding, Trade.Trade}
 use Rattle.rules.proofs.Sweep.{ofContract}
 
 -- ---- one leg
@@ -154,8 +147,7 @@ open-covered l a c sell lots = refl
 pub close-covered : (l : List Account) (a c : ℕ) (sell : Bool) (close lots : ℕ) → lots ≤ pick sell (holdingAt l a c .long) (holdingAt l a c .short)
     → legCovered l a c sell close lots ≡ true
 unfolding legCovered
-close-covered l a c sell close lots h =
-    rw (le-leb lots (pick sell (holdingAt l a c .long) (holdingAt l a c .short)) h) (pick-same (eqb close 0) true)
+close-covered l a c sell close lots h = rw (le-leb lots (pick sell (holdingAt l a c .long) (holdingAt l a c .short)) h) (pick-same (eqb close 0) true)
 
 pub never-nil : (l : List Account) → neverBelowZero l [] ≡ true
 unfolding neverBelowZero
@@ -233,6 +225,5 @@ replay-more l ts us e = rw (booked-start l us, bookTrades-append (startOfDay l) 
 
 -- and goes below zero nowhere, if the new trades do not
 pub never-more : (l : List Account) (ts us : List Trade) → sameHoldings (bookTrades (startOfDay l) ts) l ≡ true
-    → neverBelowZero (startOfDay l) ts ≡ true → neverBelowZero l us ≡ true
-    → neverBelowZero (startOfDay (bookTrades l us)) (ts ++ us) ≡ true
+    → neverBelowZero (startOfDay l) ts ≡ true → neverBelowZero l us ≡ true → neverBelowZero (startOfDay (bookTrades l us)) (ts ++ us) ≡ true
 never-more l ts us e n m = rw (booked-start l us, never-append (startOfDay l) ts us, replay-equal l ts e, n) m

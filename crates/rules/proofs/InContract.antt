@@ -1,12 +1,6 @@
 -- Work in one contract: what the stages of a command leave of all other contracts, and of the accounts. Assumes nothing.
-use mathlib.Core.Bool.{true, false}
-use mathlib.Core.List.{List, [], _++_, append-assoc, append-nil}
-use mathlib.Core.Path.{_≡_, refl, sym, _∙_}
-use Prim.Native.Nat.{ℕ, _+_}
-use borrow.Author.Tests.{eqb-false}
-use lib.Dec.{eqb}
-use lib.ListN.{getD, set}
-use lib.Seq.{getD-set-other}
+use Rattle.laws.specs.Logic.{true, false, List, [], _++_, append-nil, append-assoc, _≡_, refl, sym, _∙_}
+use Rattle.laws.specs.Numbers.{ℕ, _+_, eqb-false, eqb, getD, set, getD-set-other}
 use Rattle.laws.specs.Choice.{allOf, allOf-append, true-both}
 use Rattle.rules.specs.Answers.{listingOf, takerOf}
 use Rattle.rules.specs.Auction.{matchOf}
@@ -17,8 +11,7 @@ use Rattle.rules.specs.Kinds.{lastOf}
 use Rattle.rules.specs.Matching.{enter, restWhole}
 use Rattle.rules.specs.Quote.{Offered, buyOf, half, quoteTrades, quoted, sellOf, withBuy, withSell, withoutQuote}
 use Rattle.rules.specs.Step.{cancelled, enteredOf, exchangeAfter, exchangeMatched, removed, withListing}
-use Rattle.rules.specs.declared.NewOrder.{NewOrder}
-use Rattle.rules.specs.declared.Trade.{Trade}
+use Rattle.rules.specs.declared.{NewOrder.NewOrder, Trade.Trade}
 use Rattle.rules.proofs.AuctionOutcome.{auction-either}
 use Rattle.rules.proofs.AuctionSteps.{entered-either, match-either}
 use Rattle.rules.proofs.AuctionTrades.{match-contract}

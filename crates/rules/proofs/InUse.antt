@@ -1,17 +1,13 @@
 -- What of a memory is in use, place by place: the lists of `exchangeOf` against the arrays of the state. Assumes nothing.
-use mathlib.Core.Bool.{Bool}
-use mathlib.Core.List.{List}
-use mathlib.Core.Path.{_≡_, sym, ap, _∙_}
-use Prim.Native.Nat.{ℕ, _<_, _≤_}
-use lib.ListN.{length, getD, set, take, length-map, List·getD-map}
-use lib.Seq.{getD-take, take-nil, take-set-lt, length-take-le}
+use lib.Seq.{take-nil, take-set-lt}
+use Rattle.laws.specs.Logic.{Bool, List, _≡_, sym, ap, _∙_}
+use Rattle.laws.specs.Numbers.{ℕ, _<_, _≤_, length, getD, set, take, length-map, List·getD-map, length-take-le, getD-take}
 use Rattle.laws.specs.Lists.{map-set}
 use Rattle.laws.specs.Tabulate.{length-tabulate, getD-tabulate}
 use Rattle.rules.specs.Exchange.{noAccount, noHolding, noListing, listingAt, accountAt, holdingAt}
 use Rattle.rules.specs.Holdings.{afterLeg, bookLeg, withHolding}
 use Rattle.rules.specs.Memory.{Memory, exchangeOf, inUse, listingIn, used}
-use Rattle.rules.specs.declared.Account.{Account}
-use Rattle.rules.specs.declared.Holding.{Holding}
+use Rattle.rules.specs.declared.{Account.Account, Holding.Holding}
 
 -- ---- accounts: n of them are in use, each with its holdings in k contracts
 
@@ -29,8 +25,7 @@ module _ (k n : ℕ) where
   pub used-at : (l : List Account) (i : ℕ) → i < n → accountAt (used k n l) i ≡ inUse k (accountAt l i)
   unfolding accountAt
   used-at l i h =
-      ap (λ (d : Account). getD (used k n l) i d) (sym (none-in-use k))
-      ∙ List·getD-map (inUse k) (take n l) i noAccount
+      ap (λ (d : Account). getD (used k n l) i d) (sym (none-in-use k)) ∙ List·getD-map (inUse k) (take n l) i noAccount
       ∙ ap (inUse k) (getD-take n l i noAccount h)
 
   pub used-holding : (l : List Account) (a c : ℕ) → a < n → c < k → holdingAt (used k n l) a c ≡ holdingAt l a c

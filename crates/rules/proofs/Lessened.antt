@@ -1,14 +1,7 @@
 -- A queue in which the order with a number has fewer lots and no quote mark: it keeps its order, its tests and every other field.
 -- Assumes nothing.
-use mathlib.Core.Bool.{Bool, true, false}
-use mathlib.Core.List.{List, [], _∷_}
-use mathlib.Core.Path.{_≡_, refl}
-use Prim.Native.Nat.{ℕ, zero, suc, _+_, _<_, _≤_}
-use native.Mathlib.Nat.{le-of-suc-le-suc}
-use native.Mathlib.Omega.{arith}
-use borrow.Author.Tests.{leb-true}
-use lib.Dec.{leb}
-use lib.ListN.{length, getD}
+use Rattle.laws.specs.Logic.{Bool, true, false, List, [], _∷_, _≡_, refl}
+use Rattle.laws.specs.Numbers.{ℕ, zero, suc, _+_, _<_, _≤_, le-of-suc-le-suc, arith, leb-true, leb, length, getD}
 use Rattle.laws.specs.Choice.{pick, allOf, both-true, true-both}
 use Rattle.laws.specs.Sums.{sumOf}
 use Rattle.rules.specs.Change.{lessened, unmarked}

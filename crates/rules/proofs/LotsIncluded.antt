@@ -1,23 +1,16 @@
 -- Ticket 2: "An open passes if all charged margin, its lots included, is at most the balance", with the lots where the ticket has them:
 -- among those that the charge is for. Assumes nothing.
-use mathlib.Core.Bool.{Bool, true, false, not}
-use mathlib.Core.Path.{_≡_, refl, sym, ap, ap₂, _∙_}
-use Prim.Native.Nat.{ℕ, zero, suc, _+_, _*_, _<_, _≤_, max}
-use native.Mathlib.Nat.{mul-le-mul-left}
-use native.Mathlib.Omega.{arith}
-use borrow.Author.Tests.{eqb-true, eqb-false}
-use lib.Dec.{eqb}
 use lib.IntN.{pos}
-use lib.ListN.{length}
 use lib.Signed.{leZ}
+use Rattle.laws.specs.Logic.{Bool, true, false, not, _≡_, refl, sym, ap, ap₂, _∙_}
+use Rattle.laws.specs.Numbers.{ℕ, zero, suc, _+_, _*_, _<_, _≤_, max, mul-le-mul-left, arith, eqb-true, eqb-false, eqb, length}
 use Rattle.laws.specs.Choice.{pick}
 use Rattle.laws.specs.Ring.{leZ-ltZ}
 use Rattle.rules.specs.Answers.{moneyRefused}
 use Rattle.rules.specs.Exchange.{Exchange, Listing, listingAt, accountAt, holdingAt, placeOf}
 use Rattle.rules.specs.Holdings.{afterLeg}
 use Rattle.rules.specs.Margin.{charge, charged, chargedLots, chargedLotsWith, chargedTo, chargedWith, includedTo, withOpen}
-use Rattle.rules.specs.declared.Holding.{Holding}
-use Rattle.rules.specs.declared.NewOrder.{NewOrder}
+use Rattle.rules.specs.declared.{Holding.Holding, NewOrder.NewOrder}
 use Rattle.rules.proofs.Holdings.{holding-same, holding-other-contract}
 
 -- ---- one contract
@@ -40,13 +33,11 @@ more-lots l a h sell lots = omega arith
 -- ---- all contracts
 
 module _ (x : Exchange) (a c : ℕ) (sell : Bool) (lots : ℕ) (known : a < length (x .accounts)) (holds : c < length (accountAt (x .accounts) a .holdings)) where
-  in-contract : (d : ℕ) →
-      chargedLots (listingAt x d) a (holdingAt (withOpen x a c sell lots .accounts) a d)
+  in-contract : (d : ℕ) → chargedLots (listingAt x d) a (holdingAt (withOpen x a c sell lots .accounts) a d)
       ≡ chargedLotsWith (listingAt x d) a (holdingAt (x .accounts) a d) sell (pick (eqb d c) lots 0)
   in-contract d = by-contract (eqb d c) refl
     where
-      by-contract : (t : Bool) → eqb d c ≡ t →
-          chargedLots (listingAt x d) a (holdingAt (withOpen x a c sell lots .accounts) a d)
+      by-contract : (t : Bool) → eqb d c ≡ t → chargedLots (listingAt x d) a (holdingAt (withOpen x a c sell lots .accounts) a d)
           ≡ chargedLotsWith (listingAt x d) a (holdingAt (x .accounts) a d) sell (pick t lots 0)
       by-contract true e =
           rw (eqb-true d c e)

@@ -1,28 +1,17 @@
 -- The prices of a sweep, by any pairing method: between the limit and the resting price, on the tick, and the same whether the
 -- last price is the one on arrival or the one just made. Assumes nothing.
-use mathlib.Core.Bool.{Bool, true, false, not}
-use mathlib.Core.List.{List, [], _∷_, map}
-use mathlib.Core.Logic.{_⊎_, inl, inr, ⊎-elim}
-use mathlib.Core.Path.{_≡_, refl, ap, ap₂, _∙_}
-use Prim.Native.Nat.{ℕ, _+_, _*_, _/_, _%_, _<_, _≤_, min, max}
-use native.Mathlib.Nat.{div-add-mod', div-mul-le-self, le-div-iff-mul-le, mul-le-mul-right, mul-mod-left}
-use native.Mathlib.Omega.{arith}
-use borrow.Author.Tests.{leb-true, leb-false, le-leb, eqb-true, eq-eqb}
-use lib.Dec.{leb, eqb}
-use lib.ListN.{length, take}
-use Rattle.laws.specs.Choice.{allOf, allOf-true, both-true, pick, true-both}
+use borrow.Author.Needs.{needs}
+use Rattle.laws.specs.Logic.{Bool, true, false, not, List, [], _∷_, map, _⊎_, ⊎-elim, inl, inr, _≡_, refl, ap, ap₂, _∙_}
+use Rattle.laws.specs.Numbers.{ℕ, _+_, _*_, _/_, _%_, _<_, _≤_, min, max, mul-le-mul-right, mul-mod-left, div-add-mod', div-mul-le-self, le-div-iff-mul-le}
+use Rattle.laws.specs.Numbers.{arith, eqb-true, leb-true, leb-false, eq-eqb, le-leb, eqb, leb, length, take}
+use Rattle.laws.specs.Choice.{allOf, allOf-true, both-true, pick, true-both, by-test}
 use Rattle.rules.specs.Bounds.{onTick, allowedToday, dayLow, dayHigh, within}
 use Rattle.rules.specs.Exchange.{bestPrice, noOrder}
 use Rattle.rules.specs.Matching.{meets, counterpart, average, methodOf, middle, pairedPrice, tradePrice, tradeWith, sweep, lastPrice}
 use Rattle.rules.specs.WellFormed.{sorted}
-use Rattle.rules.specs.declared.Contract.{Contract}
-use Rattle.rules.specs.declared.Order.{Order}
-use Rattle.rules.specs.declared.PairingMethod.{PairingMethod}
+use Rattle.rules.specs.declared.{Contract.Contract, Order.Order, PairingMethod.PairingMethod, PriceCondition.PriceCondition, Taker.Taker, Trade.Trade}
 use Rattle.rules.specs.declared.PairingMethod.the-variants.{Middle, Average, FirstIn}
-use Rattle.rules.specs.declared.PriceCondition.{PriceCondition}
 use Rattle.rules.specs.declared.PriceCondition.the-variants.{Limit, Market, Best}
-use Rattle.rules.specs.declared.Taker.{Taker}
-use Rattle.rules.specs.declared.Trade.{Trade}
 use Rattle.rules.proofs.Sorted.{Behind, AllBehind, behind-trans, sorted-tail, sorted-behind, best-first}
 use Rattle.rules.proofs.Sweep.{trade-price, sweep-ind, swept-each}
 
@@ -61,14 +50,11 @@ clamped-one l u c h = by-bounds (leb c l) (leb u c) refl refl
     by-bounds false false p q = inr (inr (omega (arith, leb-false c l p, leb-false u c q)))
 
 pub middle-one : (a b c : ℕ) → (middle a b c ≡ a) ⊎ (middle a b c ≡ b) ⊎ (middle a b c ≡ c)
-middle-one a b c = by-comparison (leb a b) refl
-  where
-    by-comparison : (x : Bool) → leb a b ≡ x → (middle a b c ≡ a) ⊎ (middle a b c ≡ b) ⊎ (middle a b c ≡ c)
-    by-comparison true p = rw (middle-from-below a b c (leb-true a b p)) (clamped-one a b c (leb-true a b p))
-    by-comparison false p =
-        let h : b ≤ a = omega (arith, leb-false a b p) in
-        rw (middle-from-above a b c h)
-        (⊎-elim (λ e. inr (inl e)) (λ r. ⊎-elim (λ e. inl e) (λ e. inr (inr e)) r) (clamped-one b a c h))
+middle-one a b c =
+    by-test (leb a b) (λ p. rw (middle-from-below a b c (leb-true a b p)) (clamped-one a b c (leb-true a b p)))
+    (λ p. let h : b ≤ a = omega (arith, leb-false a b p) in
+    rw (middle-from-above a b c h)
+    (⊎-elim (λ e. inr (inl e)) (λ r. ⊎-elim (λ e. inl e) (λ e. inr (inr e)) r) (clamped-one b a c h)))
 
 -- so what holds of each of the three holds of it
 pub middle-any : (P : ℕ → Type 0) (a b c : ℕ) → P a → P b → P c → P (middle a b c)
@@ -100,15 +86,12 @@ average-above tick m a b some e h k =
     rounded-low tick m ((a + b) / 2) some e (le-div-iff-mul-le two .1 d)
 
 pub average-low : (tick a b : ℕ) → 1 ≤ tick → onTick tick a ≡ true → onTick tick b ≡ true → min a b ≤ average tick a b
-average-low tick a b some ea eb = by-comparison (leb a b) refl
-  where
-    by-comparison : (x : Bool) → leb a b ≡ x → min a b ≤ average tick a b
-    by-comparison true p =
-        let h : a ≤ b = leb-true a b p in
-        omega (arith, average-above tick a a b some ea (omega arith) h)
-    by-comparison false p =
-        let h : b < a = leb-false a b p in
-        omega (arith, average-above tick b a b some eb (omega arith) (omega arith))
+average-low tick a b some ea eb =
+    by-test (leb a b)
+    (λ p. let h : a ≤ b = leb-true a b p in
+    omega (arith, average-above tick a a b some ea (omega arith) h))
+    (λ p. let h : b < a = leb-false a b p in
+    omega (arith, average-above tick b a b some eb (omega arith) (omega arith)))
 
 pub average-high : (tick a b : ℕ) → average tick a b ≤ max a b
 unfolding average
@@ -193,9 +176,6 @@ best-meets sell best price e = eqb-true price best e
 lower-again : (l u u′ c : ℕ) → l ≤ u′ → u′ ≤ u → max l (min u′ (max l (min u c))) ≡ max l (min u′ c)
 lower-again l u u′ c h k = omega arith
 
-upper-again : (l l′ u c : ℕ) → l ≤ l′ → l′ ≤ u → max l′ (min u (max l (min u c))) ≡ max l′ (min u c)
-upper-again l l′ u c h k = omega arith
-
 -- A price further from the best, worked out from the last price just made or from the one before it, is the same.
 paired-again : (method : PairingMethod) (limit : ℕ) (sell : Bool) (best price further last : ℕ) → meets (Limit limit) sell best price ≡ true
     → meets (Limit limit) sell best further ≡ true → Behind (not sell) further price
@@ -210,7 +190,7 @@ paired-again Middle limit false best price further last m m′ h =
     let p : price ≤ limit = leb-true price limit m in
     let f : further ≤ limit = leb-true further limit m′ in
     rw (middle-from-above limit further (middle limit price last) f, middle-from-above limit price last p, middle-from-above limit further last f)
-    (upper-again price further limit last h f)
+    (omega arith)
 paired-again (Average tick) limit sell best price further last m m′ h = refl
 paired-again FirstIn limit sell best price further last m m′ h = refl
 
@@ -297,11 +277,7 @@ module _ (c : Contract) (some : 1 ≤ c .tick) (method : PairingMethod) (rounds 
       let fp = allowed-facts c price pp in
       let b = paired-between (c .tick) method limit price last some rounds (fl .tick) (fp .tick) in
       allowed-true
-      record {
-        tick = paired-on-tick (c .tick) method limit price last rounds (fl .tick) (fp .tick) pc;
-        low = omega (arith, fl .low, fp .low);
-        high = omega (arith, fl .high, fp .high);
-      }
+      search (needs, paired-on-tick) depth 12
 
   pub price-allowed : (condition : PriceCondition) (price last : ℕ) → ((limit : ℕ) → condition ≡ Limit limit → allowedToday c limit ≡ true)
       → allowedToday c price ≡ true → onTick (c .tick) last ≡ true → allowedToday c (tradePrice method condition price last) ≡ true

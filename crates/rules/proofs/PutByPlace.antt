@@ -1,16 +1,9 @@
 -- A word of an area after records were written over n places of it, place by place: the word of the record that stands there
 -- now, 0 where there was one and is none, and the word as it was. For any record, for the queues and for the day's trades.
 -- Assumes nothing.
-use mathlib.Core.Bool.{Bool, true, false}
-use mathlib.Core.List.{List}
-use mathlib.Core.Logic.{⊎-elim}
-use mathlib.Core.Path.{_≡_, refl, sym, ap, _∙_}
-use Prim.Native.Nat.{ℕ, zero, suc, _+_, _*_, _<_, _≤_, max}
-use native.Mathlib.Nat.{add-assoc, mul-suc, mul-le-mul-left, zero-add, le-of-suc-le-suc, eq-or-lt-of-le}
-use native.Mathlib.Omega.{arith}
-use borrow.Author.Tests.{eqb-true, eqb-false, ltb-true, ltb-false}
-use lib.Dec.{eqb, ltb}
-use lib.ListN.{length, getD, replicate, getD-replicate}
+use Rattle.laws.specs.Logic.{Bool, true, false, List, ⊎-elim, _≡_, refl, sym, ap, _∙_}
+use Rattle.laws.specs.Numbers.{ℕ, zero, suc, _+_, _*_, _<_, _≤_, max, le-of-suc-le-suc, eq-or-lt-of-le, zero-add, add-assoc, mul-suc, mul-le-mul-left, arith}
+use Rattle.laws.specs.Numbers.{eqb-true, eqb-false, ltb-true, ltb-false, eqb, ltb, length, getD, replicate, getD-replicate}
 use Rattle.laws.specs.Choice.{pick}
 use Rattle.areas.specs.Lists.{over, padded}
 use Rattle.areas.specs.Records.{Codec, encode, store}
@@ -19,8 +12,7 @@ use Rattle.areas.proofs.Records.{getD-encode, length-encode}
 use Rattle.rules.specs.Bounds.{maxResting}
 use Rattle.rules.specs.Exchange.{noOrder, noTrade}
 use Rattle.rules.specs.Memory.{firstWord, orderStride, queueStride, tradeStride, orderWords, tradeWords, wordOf, putQueue, putQueues, putTrades}
-use Rattle.rules.specs.declared.Order.{Order}
-use Rattle.rules.specs.declared.Trade.{Trade}
+use Rattle.rules.specs.declared.{Order.Order, Trade.Trade}
 use Rattle.rules.proofs.Codecs.{order-codec, trade-codec, length-filled, length-putQueues, before-or-after}
 
 -- ---- records written over n places, z in those that they leave
@@ -48,8 +40,7 @@ module _ {A : Type 0} {W : ℕ} {words : A → List ℕ} {first : List ℕ → A
           ∙ getD-over-in a base written inside (W * i + word) 0 (rw wide (among (max n (length os)) h))
           ∙ getD-encode C (padded n z os) i word z (rw (length-filled n z os) h) b
 
-      by-place : (s t : Bool) → ltb i (length os) ≡ s → ltb i n ≡ t →
-          getD (over a base written) (base + W * i + word) 0
+      by-place : (s t : Bool) → ltb i (length os) ≡ s → ltb i n ≡ t → getD (over a base written) (base + W * i + word) 0
           ≡ pick s (getD (words (getD os i z)) word 0) (pick t 0 (getD a (base + W * i + word) 0))
       by-place true t p q =
           let h = ltb-true i (length os) p in
@@ -71,8 +62,7 @@ pub word-putTrades : (area : List ℕ) (n : ℕ) (ts : List Trade) (i word : ℕ
     getD (putTrades area n ts) (tradeStride * i + word) 0
     ≡ pick (ltb i (length ts)) (getD (tradeWords (getD ts i noTrade)) word 0) (pick (ltb i n) 0 (getD area (tradeStride * i + word) 0))
 unfolding putTrades
-word-putTrades area n ts i word b =
-    rw (zero-add (tradeStride * i)) at (word-put trade-codec noTrade refl area 0 n i word ts (omega arith) b)
+word-putTrades area n ts i word b = rw (zero-add (tradeStride * i)) at (word-put trade-codec noTrade refl area 0 n i word ts (omega arith) b)
 
 -- ---- a queue
 
@@ -110,11 +100,9 @@ module _ (area counts : List ℕ) (queues : ℕ → List Order) (contracts : ℕ
   word-putQueues-past zero c k past = refl
   word-putQueues-past (suc d) c k past =
       word-putQueue-other (putQueues area counts queues d) d (getD counts d 0) (queues d) i word place b (fits d k) (few d k) (short d k) c
-      (λ e. omega arith)
-      ∙ word-putQueues-past d c (omega arith) (omega arith)
+      (λ e. omega arith) ∙ word-putQueues-past d c (omega arith) (omega arith)
 
-  pub word-putQueues : (n c : ℕ) → n ≤ contracts → c < n →
-      getD (putQueues area counts queues n) (firstWord c i + word) 0
+  pub word-putQueues : (n c : ℕ) → n ≤ contracts → c < n → getD (putQueues area counts queues n) (firstWord c i + word) 0
       ≡ pick (ltb i (length (queues c))) (wordOf word (getD (queues c) i noOrder)) (pick (ltb i (getD counts c 0)) 0 (getD area (firstWord c i + word) 0))
   unfolding putQueues
   word-putQueues zero c k h = absurd (omega arith)

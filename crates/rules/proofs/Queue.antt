@@ -1,12 +1,7 @@
 -- Queues as lists of orders: the lots of those that satisfy a test, the queue without them, an order come to rest, numbers used
 -- once. Assumes nothing.
-use mathlib.Core.Bool.{Bool, true, false, not}
-use mathlib.Core.List.{List, [], _∷_, _++_}
-use mathlib.Core.Path.{_≡_, refl, ap}
-use Prim.Native.Nat.{ℕ, suc, _+_, _≤_}
-use native.Mathlib.Omega.{arith}
-use lib.Dec.{eqb}
-use lib.ListN.{length}
+use Rattle.laws.specs.Logic.{Bool, true, false, not, List, [], _∷_, _++_, _≡_, refl, ap}
+use Rattle.laws.specs.Numbers.{ℕ, suc, _+_, _≤_, arith, eqb, length}
 use Rattle.laws.specs.Choice.{pick-either, allOf, allOf-append, both-true, true-both}
 use Rattle.laws.specs.Sums.{sumOf, sumOf-append}
 use Rattle.rules.specs.Exchange.{worse, lotsWhere}

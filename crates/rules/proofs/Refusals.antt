@@ -1,14 +1,7 @@
 -- Lists of refusals: the first that holds of two lists one after the other, and that code 0 says that every one of them failed. Assumes
 -- nothing.
-use mathlib.Core.Bool.{true, false}
-use mathlib.Core.List.{List, [], _∷_, _++_}
-use mathlib.Core.Logic.{_≢_}
-use mathlib.Core.Path.{_≡_, refl}
-use Prim.Native.Nat.{ℕ, _<_}
-use native.Mathlib.Omega.{arith}
-use borrow.Author.Tests.{eqb-false, ltb-false, ne-eqb}
-use lib.Dec.{ltb, eqb}
-use lib.ListN.{length}
+use Rattle.laws.specs.Logic.{true, false, List, [], _∷_, _++_, _≢_, _≡_, refl}
+use Rattle.laws.specs.Numbers.{ℕ, _<_, arith, eqb-false, ltb-false, ne-eqb, eqb, ltb, length}
 use Rattle.laws.specs.Choice.{either-false, pick}
 use Rattle.rules.specs.Answers.{Refusal, _when_, firstOf}
 use Rattle.rules.specs.Exchange.{absent, placeOf}

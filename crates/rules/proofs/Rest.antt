@@ -1,21 +1,14 @@
 -- What a sweep leaves: the opposite queue stays sorted and keeps its orders but for lots, and a remainder that rests does not cross
 -- it. Assumes nothing.
-use mathlib.Core.Bool.{Bool, true, false, not}
-use mathlib.Core.List.{List, [], _∷_}
-use mathlib.Core.Logic.{_⊎_, inl, inr, ⊎-elim}
-use mathlib.Core.Path.{_≡_, refl, sym, _∙_}
-use Prim.Native.Nat.{ℕ, zero, suc, _-_, _<_, _≤_}
-use native.Mathlib.Omega.{arith}
-use borrow.Author.Tests.{leb-false, ltb-true, lt-ltb}
-use lib.ListN.{length}
+use Rattle.laws.specs.Logic.{Bool, true, false, not, List, [], _∷_, _⊎_, ⊎-elim, inl, inr, _≡_, refl, sym, _∙_}
+use Rattle.laws.specs.Numbers.{ℕ, zero, suc, _-_, _<_, _≤_, arith, leb-false, ltb-true, lt-ltb, length}
 use Rattle.laws.specs.Choice.{pick, allOf, both-true, true-both}
 use Rattle.laws.specs.Sums.{sumOf, sumOf-cons}
 use Rattle.rules.specs.Exchange.{worse}
 use Rattle.rules.specs.Matching.{meets, tradeWith, withLots, sweep, tradedLots, restIn, remainder, restLots, restedLots, enter}
 use Rattle.rules.specs.WellFormed.{ahead, aheadOfFirst, sorted, uncrossed}
-use Rattle.rules.specs.declared.Order.{Order}
+use Rattle.rules.specs.declared.{Order.Order, Taker.Taker}
 use Rattle.rules.specs.declared.PriceCondition.the-variants.{Limit}
-use Rattle.rules.specs.declared.Taker.{Taker}
 use Rattle.rules.proofs.Fillable.{traded-nil, traded-cons}
 use Rattle.rules.proofs.Sorted.{Behind, AllBehind, behind-refl, sorted-tail, sorted-behind}
 use Rattle.rules.proofs.Sweep.{Unmet, trade-lots, sweep-end, sweep-ind}
@@ -191,8 +184,7 @@ remainder-price t price lots = refl
 
 -- "the two are uncrossed", after an order that is entered as before it
 pub entered-uncrossed : (t : Taker) (lots price : ℕ) (goodForDay : Bool) (last : ℕ) (own opposite : List Order)
-    → (goodForDay ≡ true → t .condition ≡ Limit price)
-    → sorted (not (t .sell)) opposite ≡ true → uncrossedFrom (t .sell) own opposite ≡ true
+    → (goodForDay ≡ true → t .condition ≡ Limit price) → sorted (not (t .sell)) opposite ≡ true → uncrossedFrom (t .sell) own opposite ≡ true
     → uncrossedFrom (t .sell) (enter t lots price goodForDay last own opposite .own) (enter t lots price goodForDay last own opposite .opposite) ≡ true
 unfolding enter restedLots
 entered-uncrossed t lots price goodForDay last own opposite limit order before = by-remainder goodForDay limit (lots - tradedLots (sweep t lots last opposite .trades)) refl

@@ -1,11 +1,6 @@
 -- What the order of a queue says of its prices: each stands at or behind the one before. Assumes nothing.
-use mathlib.Core.Bool.{Bool, true, false, _&&_, _||_}
-use mathlib.Core.List.{List, [], _∷_}
-use mathlib.Core.Path.{_≡_, refl}
-use Prim.Native.Nat.{ℕ, _≤_}
-use native.Mathlib.Omega.{arith}
-use borrow.Author.Tests.{ltb-true, eqb-true}
-use lib.Dec.{ltb, eqb}
+use Rattle.laws.specs.Logic.{Bool, true, false, _&&_, _||_, List, [], _∷_, _≡_, refl}
+use Rattle.laws.specs.Numbers.{ℕ, _≤_, arith, eqb-true, ltb-true, eqb, ltb}
 use Rattle.laws.specs.Choice.{both-true}
 use Rattle.rules.specs.Exchange.{worse, bestPrice}
 use Rattle.rules.specs.WellFormed.{ahead, aheadOfFirst, sorted}

@@ -1,24 +1,19 @@
 -- The choice by code, once, and what holds of the state that a command leaves from what holds of its stages. Assumes nothing.
-use mathlib.Core.Bool.{Bool, true, false}
-use mathlib.Core.List.{List, [], _∷_}
-use mathlib.Core.Path.{_≡_, refl}
-use borrow.Author.Tests.{eqb-true, eqb-false}
-use lib.Dec.{eqb}
+use Rattle.laws.specs.Logic.{List, [], _∷_, _≡_}
+use Rattle.laws.specs.Numbers.{eqb-true, eqb-false, eqb}
+use Rattle.laws.specs.Choice.{by-test}
 use Rattle.rules.specs.Exchange.{Exchange}
 use Rattle.rules.specs.Kinds.{Decision, refused, done, kindOf, codeOf, decide, lastOf}
 use Rattle.rules.specs.declared.Command.{Command}
 
 -- a command is accepted and done, or refused
-pub decided : (P : Decision → Type 0) (x : Exchange) (command : Command) →
-    (codeOf x command ≡ 0 → P (done (kindOf x command .effect))) →
+pub decided : (P : Decision → Type 0) (x : Exchange) (command : Command) → (codeOf x command ≡ 0 → P (done (kindOf x command .effect))) →
     ((codeOf x command ≡ 0 → ⊥) → P (refused (codeOf x command))) →
     P (decide x command)
 unfolding decide
-decided P x command accepts refuses = by-acceptance (eqb (codeOf x command) 0) refl
-  where
-    by-acceptance : (b : Bool) → eqb (codeOf x command) 0 ≡ b → P (decide x command)
-    by-acceptance true e = rw e (accepts (eqb-true (codeOf x command) 0 e))
-    by-acceptance false e = rw e (refuses (eqb-false (codeOf x command) 0 e))
+decided P x command accepts refuses =
+    by-test (eqb (codeOf x command) 0) (λ e. rw e (accepts (eqb-true (codeOf x command) 0 e)))
+    (λ e. rw e (refuses (eqb-false (codeOf x command) 0 e)))
 
 -- ---- stages
 

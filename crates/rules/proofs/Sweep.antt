@@ -1,18 +1,10 @@
 -- The sweep turn by turn: what it makes of the first order of a queue, for the loop that walks it, and an induction by which
 -- a theorem about every sweep is three short cases. Assumes nothing.
-use mathlib.Core.Bool.{Bool, true, false, _&&_}
-use mathlib.Core.List.{List, [], _∷_}
-use mathlib.Core.Logic.{_⊎_, inl, inr}
-use mathlib.Core.Path.{_≡_, refl, _∙_}
-use Prim.Native.Nat.{ℕ, zero, suc, _-_, _<_, _≤_, min}
-use native.Mathlib.Omega.{arith}
-use borrow.Author.Tests.{eq-eqb, lt-ltb, ltb-true, ltb-false}
-use lib.Dec.{eqb, ltb}
+use Rattle.laws.specs.Logic.{Bool, true, false, _&&_, List, [], _∷_, _⊎_, inl, inr, _≡_, refl, _∙_}
+use Rattle.laws.specs.Numbers.{ℕ, zero, suc, _-_, _<_, _≤_, min, arith, ltb-true, ltb-false, eq-eqb, lt-ltb, eqb, ltb}
 use Rattle.laws.specs.Choice.{pick-true, pick-false, allOf, both-true, true-both, both-false}
 use Rattle.rules.specs.Matching.{counterpart, tradePrice, tradeWith, withLots, stays, Swept, untouched, afterTrade, sweep}
-use Rattle.rules.specs.declared.Order.{Order}
-use Rattle.rules.specs.declared.Taker.{Taker}
-use Rattle.rules.specs.declared.Trade.{Trade}
+use Rattle.rules.specs.declared.{Order.Order, Taker.Taker, Trade.Trade}
 
 -- ---- a trade's lots and price
 
@@ -64,8 +56,7 @@ module _ (t : Taker) (left last : ℕ) (o : Order) (os : List Order) where
   unfolding sweep
   sweep-unmet e = pick-false (ltb 0 left && counterpart t o) _ _ (both-false (ltb 0 left) (counterpart t o) e)
 
-  met-turn : 0 < left → counterpart t o ≡ true
-      → sweep t left last (o ∷ os)
+  met-turn : 0 < left → counterpart t o ≡ true → sweep t left last (o ∷ os)
       ≡ afterTrade (tradeWith t o left last) (stays o (o .lots - min left (o .lots))) (sweep t (left - min left (o .lots)) (tradePrice (t .method) (t .condition) (o .price) last) os)
   unfolding sweep
   met-turn some met = pick-true (ltb 0 left && counterpart t o) _ _ (true-both (ltb 0 left) (counterpart t o) (lt-ltb 0 left some) met)
@@ -98,8 +89,7 @@ module _ (t : Taker) (P : ℕ → ℕ → List Order → Swept → Type 0)
     (full : (left last : ℕ) (o : Order) (os : List Order) (s : Swept) → 0 < left → counterpart t o ≡ true → o .lots ≤ left
     → P (left - o .lots) (tradePrice (t .method) (t .condition) (o .price) last) os s → P left last (o ∷ os) (filled t o left last s)) where
   turn : (left last : ℕ) (o : Order) (os : List Order) (some met short : Bool) → ltb 0 left ≡ some → counterpart t o ≡ met
-      → ltb left (o .lots) ≡ short
-      → ((k p : ℕ) → P k p os (sweep t k p os)) → P left last (o ∷ os) (sweep t left last (o ∷ os))
+      → ltb left (o .lots) ≡ short → ((k p : ℕ) → P k p os (sweep t k p os)) → P left last (o ∷ os) (sweep t left last (o ∷ os))
   turn left last o os false met short a b c ih =
       let z : left ≡ 0 = omega (arith, ltb-false 0 left a) in
       rw (sweep-none-left t left last o os z) (stop left last (o ∷ os) (inl z))

@@ -1,10 +1,6 @@
 -- What a passed test of a range, of a tick multiple and of a contract's terms says, and back. Assumes nothing.
-use mathlib.Core.Bool.{Bool, true, false, _&&_}
-use mathlib.Core.List.{List, [], _∷_}
-use mathlib.Core.Path.{_≡_, refl}
-use Prim.Native.Nat.{ℕ, _<_, _≤_}
-use borrow.Author.Tests.{leb-true, le-leb, lt-leb}
-use lib.Dec.{leb}
+use Rattle.laws.specs.Logic.{Bool, true, false, _&&_, List, [], _∷_, _≡_, refl}
+use Rattle.laws.specs.Numbers.{ℕ, _<_, _≤_, leb-true, le-leb, lt-leb, leb}
 use Rattle.laws.specs.Chains.{all-passed, join}
 use Rattle.laws.specs.Choice.{both-true, true-both, both-false, false-both}
 use Rattle.rules.specs.Bounds.{within, onTick, tickMultiple, termsInRange, maxPrice, maxMethod, maxMultiplier, maxTick, maxLimit, maxRate, phaseKnown}
@@ -85,19 +81,7 @@ module _ (c : Contract) where
   unfolding termsInRange
   terms h =
       let p = all-passed (within 1 1_000 (c .multiplier)) termTests h in
-      record {
-        multiplier-low = within-low 1 maxMultiplier (c .multiplier) (p .0);
-        multiplier-high = within-high 1 maxMultiplier (c .multiplier) (p .0);
-        tick-low = within-low 1 maxTick (c .tick) (p .1 .0);
-        tick-high = within-high 1 maxTick (c .tick) (p .1 .0);
-        reference = multiple (c .tick) (c .reference) (p .1 .1 .0);
-        band = multiple (c .tick) (c .band) (p .1 .1 .1 .0);
-        limit-low = within-low 1 maxLimit (c .limit) (p .1 .1 .1 .1 .0);
-        limit-high = within-high 1 maxLimit (c .limit) (p .1 .1 .1 .1 .0);
-        rate-low = within-low 1 maxRate (c .rate) (p .1 .1 .1 .1 .1 .0);
-        rate-high = within-high 1 maxRate (c .rate) (p .1 .1 .1 .1 .1 .0);
-        method-high = leb-true (c .method) maxMethod (p .1 .1 .1 .1 .1 .1);
-      }
+      search (within-low, within-high, multiple, leb-true) depth 12
 
   pub terms-test : Terms c → termsInRange c ≡ true
   unfolding termsInRange

@@ -1,15 +1,7 @@
 -- WHAT A COMMAND MAY TOUCH: the theorems in the words of specs/Touches.antt, one clause a kind. Assumes nothing.
-use mathlib.Core.Bool.{Bool, true, false, not, _&&_, true≢false, false≢true}
-use mathlib.Core.List.{List, [], _∷_, append-nil}
-use mathlib.Core.Logic.{_≢_}
-use mathlib.Core.Path.{_≡_, refl, sym, ap, _∙_}
-use Prim.Native.Nat.{ℕ, _+_, _<_}
-use native.Mathlib.Omega.{arith}
-use borrow.Author.Tests.{eqb-true, eqb-false, ne-eqb}
-use lib.Dec.{eqb, ltb}
 use lib.IntN.{ℤ}
-use lib.ListN.{length, getD}
-use lib.Seq.{getD-set-other, getD-set-same, map-set-same}
+use Rattle.laws.specs.Logic.{Bool, true, false, not, _&&_, true≢false, false≢true, List, [], _∷_, append-nil, _≢_, _≡_, refl, sym, ap, _∙_}
+use Rattle.laws.specs.Numbers.{ℕ, _+_, _<_, arith, eqb-true, eqb-false, ne-eqb, eqb, ltb, length, getD, getD-set-same, getD-set-other, map-set-same}
 use Rattle.laws.specs.Choice.{allOf, allOf-true, both-true, either-false, pick}
 use Rattle.laws.specs.Lists.{at-set, kept-at}
 use Rattle.rules.specs.Change.{unchanged}
@@ -19,11 +11,8 @@ use Rattle.rules.specs.Holdings.{bookTrades}
 use Rattle.rules.specs.Kinds.{codeOf, decide, kindOf, lastOf, step}
 use Rattle.rules.specs.Step.{isOf, listingWithout, paid, pulled, removed, withListing, without}
 use Rattle.rules.specs.Touches.{BalanceStays, BlankIsRefused, ContractStays, HeldByTrades, MoneyStays, OrdersUntouched, PullTakesOwn, QueuesAlone, RefusedAndUnchanged, RefusedChangesNothing, holdingsOf, isBlank, names, ordersOf, ordersWhere}
-use Rattle.rules.specs.declared.Account.{Account}
-use Rattle.rules.specs.declared.Command.{Command}
+use Rattle.rules.specs.declared.{Account.Account, Command.Command, Order.Order, Trade.Trade}
 use Rattle.rules.specs.declared.Command.the-variants.{Pull}
-use Rattle.rules.specs.declared.Order.{Order}
-use Rattle.rules.specs.declared.Trade.{Trade}
 use Rattle.rules.proofs.EachKind.{Pays, Works, accepted-named, kind-pays, kind-works}
 use Rattle.rules.proofs.InContract.{InContract}
 use Rattle.rules.proofs.Holdings.{booked-balance, other-holding}
@@ -38,10 +27,7 @@ refused-step x command r = decided (λ d. lastOf x (d .stages) ≡ x) x command 
 
 pub refused-changes-nothing : (x : Exchange) (command : Command) → RefusedChangesNothing x command
 refused-changes-nothing x command =
-    record {
-      unchanged = refused-step x command;
-      again = λ r. ap (λ (y : Exchange). decide y command) (refused-step x command r);
-    }
+    record { unchanged = refused-step x command; again = λ r. ap (λ (y : Exchange). decide y command) (refused-step x command r) }
 
 -- ---- 2. blank
 
@@ -145,11 +131,8 @@ without-where test (o ∷ os) = by-test (test o) (without-where test os)
 
 pub own-without : (x : Exchange) (c : ℕ) (test : Order → Bool) → c < length (x .listings) → (sell : Bool) →
     own sell (listingAt (withListing x c (listingWithout test (listingAt x c))) c) ≡ without test (own sell (listingAt x c))
-own-without x c test there sell = ap (own sell) (relisted x c (listingWithout test (listingAt x c)) there) ∙ by-side sell
-  where
-    by-side : (sell : Bool) → own sell (listingWithout test (listingAt x c)) ≡ without test (own sell (listingAt x c))
-    by-side true = refl
-    by-side false = refl
+own-without x c test there sell = ap (own sell) (relisted x c (listingWithout test (listingAt x c)) there)
+    ∙ (elim sell [ false ↦ refl | true ↦ refl ])
 
 -- an account's orders where none of those taken out is its own
 module _ (a : ℕ) where
@@ -190,16 +173,13 @@ module _ (x : Exchange) (account contract : ℕ) (operator : Bool) where
   abbrev left : Exchange
   left = withListing x (placeOf contract) (listingWithout (isOf (placeOf account)) (listingNamed x contract))
 
-  pull-step : codeOf x pulls ≡ 0 → step x pulls ≡ left
-  unfolding kindOf pulled removed
-  pull-step e = accepted-step x pulls e
-
   pull-there : codeOf x pulls ≡ 0 → placeOf contract < length (x .listings)
   pull-there e = contract-there x pulls contract refl e
 
   pub pull-takes-own : codeOf x pulls ≡ 0 → PullTakesOwn x account contract (step x pulls)
+  unfolding kindOf pulled removed
   pull-takes-own e =
-      rw (pull-step e)
+      rw (accepted-step x pulls e)
       record {
         queues = λ sell. own-without x (placeOf contract) (isOf (placeOf account)) (pull-there e) sell ∙ without-where (isOf (placeOf account)) (own sell (listingNamed x contract));
         otherwise = queues-alone x (placeOf contract) (isOf (placeOf account)) (pull-there e);
@@ -261,8 +241,7 @@ paid-held x b balance = record { made = []; recorded = unfold paid in sym (appen
 
 pays-money : (x : Exchange) (command : Command) → isPayment command ≡ true → (f : Field) → ((a : ℕ) → names (accountField command) a ≡ false → isAt f a ≡ false) →
     (y : Exchange) → Pays f x y → MoneyStays x command y
-pays-money x command p unused at y e =
-    rw e record { others = λ a f. refl; orders = λ q a. refl; holdings = held-same x; payments = λ q. refl }
+pays-money x command p unused at y e = rw e record { others = λ a f. refl; orders = λ q a. refl; holdings = held-same x; payments = λ q. refl }
 pays-money x command p (holds number) at y k =
     rw (k .1)
     record {

@@ -1,11 +1,7 @@
 -- QUOTE MARKS PLAY NO PART in what an order is refused for, what it trades and where it rests (document 02, ticket 7): on the state without
 -- its marks it has the same refusals, makes the same trades and leaves the same state, marks aside. Assumes nothing.
-use mathlib.Core.Bool.{Bool, true, false, _&&_}
-use mathlib.Core.List.{List, [], _∷_, _++_, map}
-use mathlib.Core.Path.{_≡_, refl, sym, ap, _∙_}
-use Prim.Native.Nat.{ℕ, zero, suc, _-_, min}
-use lib.Dec.{ltb, eqb}
-use lib.ListN.{length, length-map, List·getD-map}
+use Rattle.laws.specs.Logic.{Bool, true, false, _&&_, List, [], _∷_, _++_, map, _≡_, refl, sym, ap, _∙_}
+use Rattle.laws.specs.Numbers.{ℕ, zero, suc, _-_, min, eqb, ltb, length, length-map, List·getD-map}
 use Rattle.laws.specs.Choice.{pick}
 use Rattle.laws.specs.Lists.{map-set}
 use Rattle.laws.specs.Sums.{sumOf}
@@ -16,9 +12,7 @@ use Rattle.rules.specs.Exchange.{Exchange, Listing, bestPrice, listingAt
 use Rattle.rules.specs.Margin.{chargedLots, chargedTo, withOpen}
 use Rattle.rules.specs.Matching.{Entered, Swept, afterTrade, counterpart, enter, fillable, remainder, restIn, restLots, restWhole, stays, sweep, tradePrice, tradeWith, untouched}
 use Rattle.rules.specs.Step.{enteredAmong, enteredOf, exchangeAfter, limitOf, listingAfter}
-use Rattle.rules.specs.declared.NewOrder.{NewOrder}
-use Rattle.rules.specs.declared.Order.{Order}
-use Rattle.rules.specs.declared.Taker.{Taker}
+use Rattle.rules.specs.declared.{NewOrder.NewOrder, Order.Order, Taker.Taker}
 
 -- a queue, a contract's queues and a state without quote marks
 abbrev pub plain : List Order → List Order
@@ -179,8 +173,7 @@ module _ (x : Exchange) where
     unfolding enteredOf
     entered-unmarked number quote =
         ap (λ (t : Taker). enteredBy t o (listingOf (withoutMarks x) o)) (plain-taker number quote)
-        ∙ ap (enteredBy (plainTaker (takerOf x number quote o)) o) plain-listing-of
-        ∙ plain-entered (takerOf x number quote o) o (listingOf x o)
+        ∙ ap (enteredBy (plainTaker (takerOf x number quote o)) o) plain-listing-of ∙ plain-entered (takerOf x number quote o) o (listingOf x o)
 
     -- ---- .. AND IT LEAVES THE SAME STATE, MARKS ASIDE
 

@@ -1,13 +1,10 @@
 -- Holdings that become start-of-day ones, and a balance that takes the day's profit. Assumes nothing.
-use mathlib.Core.List.{List, map}
-use mathlib.Core.Path.{_≡_, refl, sym, ap, _∙_}
-use Prim.Native.Nat.{ℕ, _+_, _*_, _^_, _<_, _≤_}
-use native.Mathlib.Omega.{arith}
 use lib.IntN.{ℤ, pos, _+ℤ_}
-use lib.ListN.{length, getD, set, take, replicate}
 use mir.Syntax.{w64}
 use mir.Val.{SFits, toZ, ofZ}
 use mir.Facts.{toZ-ofZ}
+use Rattle.laws.specs.Logic.{List, map, _≡_, refl, sym, ap, _∙_}
+use Rattle.laws.specs.Numbers.{ℕ, _+_, _*_, _^_, _<_, _≤_, arith, length, getD, set, take, replicate}
 use Rattle.laws.specs.Bound.{Within, within-add}
 use Rattle.laws.specs.Written.{Writing, writing-none, writing-more, writing-done}
 use Rattle.laws.proofs.Signed.{back, sum-fits, add-back}
@@ -15,9 +12,7 @@ use Rattle.rules.specs.Bounds.{balanceMost}
 use Rattle.rules.specs.Exchange.{Exchange, noHolding}
 use Rattle.rules.specs.Memory.{putAccount, putFirst}
 use Rattle.rules.specs.Settlement.{carriedHolding, settledAccount, closingProfit, holdingProfit}
-use Rattle.rules.specs.declared.Account.{Account}
-use Rattle.rules.specs.declared.Holding.{Holding}
-use Rattle.rules.specs.declared.State.{State}
+use Rattle.rules.specs.declared.{Account.Account, Holding.Holding, State.State}
 use Rattle.settlement.specs.Settling.{accountIn, HasDay, carriedAccount, AllPayable, BooksIs}
 use Rattle.dayprofit.specs.declared.profit.Profit.{Profit}
 use Rattle.settlement.proofs.Totals.{TotalIs}

@@ -1,11 +1,7 @@
 -- Resting orders and the day's trades cleared from their areas: what the cleared parts make of the whole area. Assumes nothing.
-use mathlib.Core.List.{List, [], _++_}
-use mathlib.Core.Path.{_≡_, refl, sym, ap, _∙_}
-use Prim.Native.Nat.{ℕ, _+_, _-_, _*_, _<_, _≤_}
-use native.Mathlib.Numerals.{add-one}
-use native.Mathlib.Omega.{arith}
 use borrow.Rule.Slice.PartMut.{putMid}
-use lib.ListN.{length, getD, take, drop, replicate}
+use Rattle.laws.specs.Logic.{List, [], _++_, _≡_, refl, sym, ap, _∙_}
+use Rattle.laws.specs.Numbers.{ℕ, _+_, _-_, _*_, _<_, _≤_, add-one, arith, length, getD, take, drop, replicate}
 use Rattle.areas.proofs.Changes.{emptied}
 use Rattle.rules.specs.Exchange.{noOrder, noTrade}
 use Rattle.rules.specs.Memory.{putQueue, putQueues, putTrades, queueStride, tradeStride, firstWord}

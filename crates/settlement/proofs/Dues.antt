@@ -1,17 +1,9 @@
 -- The lots that the closes of every account took of today's, slot by slot, as a loop writes them. Assumes nothing.
-use mathlib.Core.Bool.{Bool, true, false, not}
-use mathlib.Core.List.{List}
-use mathlib.Core.Path.{_≡_, refl, ap, _∙_, subst}
-use Prim.Native.Nat.{ℕ, _+_, _-_, _*_, _/_, _%_, _<_, _≤_}
-use native.Mathlib.Nat.{div-add-mod', mod-lt}
-use native.Mathlib.Omega.{arith}
-use borrow.Author.Tests.{eqb-true, eqb-false, ltb-true, ltb-false}
-use lib.Dec.{eqb, ltb}
-use lib.ListN.{length, getD, set, length-set}
-use lib.Seq.{getD-set-same, getD-set-other}
+use Rattle.laws.specs.Logic.{Bool, true, false, not, List, _≡_, refl, ap, subst, _∙_}
+use Rattle.laws.specs.Numbers.{ℕ, _+_, _-_, _*_, _/_, _%_, _<_, _≤_, mod-lt, div-add-mod', arith, eqb-true, eqb-false, ltb-true, ltb-false, eqb, ltb, length}
+use Rattle.laws.specs.Numbers.{getD, set, length-set, getD-set-same, getD-set-other}
 use Rattle.laws.specs.Choice.{pick}
-use Rattle.rules.specs.declared.Holding.{Holding}
-use Rattle.rules.specs.declared.State.{State}
+use Rattle.rules.specs.declared.{Holding.Holding, State.State}
 use Rattle.dayprofit.specs.Slots.{slotOf}
 use Rattle.dayprofit.proofs.Gains.{Due}
 use Rattle.dayprofit.proofs.Slots.{slot-small, one-account, one-contract, one-side}
@@ -98,7 +90,4 @@ module _ (s : State) (closed left left′ left″ : List ℕ) (k a₀ c₀ : ℕ
 
 pub dues-done : (s : State) (closed left : List ℕ) (k : ℕ) → 4 * s .accountcount ≤ k → Dues s closed left k → AllDue s closed left
 dues-done s closed left k h w =
-    record {
-      long = λ a c la lc. w .each a c false lc (omega arith);
-      short = λ a c la lc. w .each a c true lc (omega arith);
-    }
+    record { long = λ a c la lc. w .each a c false lc (omega arith); short = λ a c la lc. w .each a c true lc (omega arith) }

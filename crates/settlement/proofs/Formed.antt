@@ -1,19 +1,14 @@
 -- What a well-formed memory says that margin and settlement ask for: terms, trades, holdings and balances in range, room, and
 -- closes that find their lots. Assumes nothing.
-use mathlib.Core.Bool.{true, false}
-use mathlib.Core.List.{List, [], _∷_}
-use mathlib.Core.Path.{_≡_}
-use Prim.Native.Nat.{ℕ, _*_, _^_, _<_, _≤_}
-use native.Mathlib.Omega.{arith}
-use lib.ListN.{length, getD}
+use Rattle.laws.specs.Logic.{true, false, List, [], _∷_, _≡_}
+use Rattle.laws.specs.Numbers.{ℕ, _*_, _^_, _<_, _≤_, arith, length, getD}
 use Rattle.laws.specs.Bound.{Within, within-abs}
 use Rattle.laws.specs.Choice.{allOf, allOf-at, both-true}
 use Rattle.rules.specs.Exchange.{Exchange, listingAt, contractAt, holderAt, heldAt, noContract, noAccount, noHolding, noTrade}
 use Rattle.rules.specs.Memory.{Memory, Declared, exchangeOf, listingIn, recordedTrades, wellFormedMemory}
 use Rattle.rules.specs.Settlement.{dayStart, legs, settlementPrice}
 use Rattle.rules.specs.WellFormed.{tradeInRange}
-use Rattle.rules.specs.declared.State.{State}
-use Rattle.rules.specs.declared.Trade.{Trade}
+use Rattle.rules.specs.declared.{State.State, Trade.Trade}
 use Rattle.rules.proofs.Codecs.{length-trades}
 use Rattle.rules.proofs.InUse.{contracts-in-use, accounts-in-use, listing-in-use, holding-in-use}
 use Rattle.rules.proofs.Terms.{Terms, contract-terms}

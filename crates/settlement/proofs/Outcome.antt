@@ -1,14 +1,8 @@
 -- The whole settlement: from a well-formed state to what each part asks for, and from the parts to the state, the areas and the
 -- report that the rules give. Assumes nothing.
-use mathlib.Core.Bool.{true}
-use mathlib.Core.List.{List, [], map}
-use mathlib.Core.Path.{_≡_, refl, sym, ap, ap₂, _∙_}
-use Prim.Native.Nat.{ℕ, zero, suc, _+_, _<_, _≤_}
-use native.Mathlib.Nat.{le-trans, le-of-eq}
-use native.Mathlib.Omega.{arith}
-use borrow.Author.Tests.{leb-false}
 use lib.IntN.{ℤ}
-use lib.ListN.{length, getD}
+use Rattle.laws.specs.Logic.{true, List, [], map, _≡_, refl, sym, ap, ap₂, _∙_}
+use Rattle.laws.specs.Numbers.{ℕ, zero, suc, _+_, _<_, _≤_, le-trans, le-of-eq, arith, leb-false, length, getD}
 use Rattle.laws.specs.Tabulate.{tabulate, length-tabulate, getD-tabulate, tabulate-below, map-tabulate}
 use Rattle.laws.specs.Written.{length-written}
 use Rattle.areas.specs.Lists.{padded}
@@ -21,11 +15,8 @@ use Rattle.rules.specs.Margin as margin
 use Rattle.rules.specs.Memory.{Memory, exchangeOf, listingIn, put, putState, putFirst, putAccounts, putQueues, putTrades, wellFormedMemory, memory, written}
 use Rattle.rules.specs.Settlement.{settlementPrice, settledAccount, settledContract, settledListing, settled}
 use Rattle.rules.specs.Step.{settledAll}
-use Rattle.rules.specs.declared.Account.{Account}
+use Rattle.rules.specs.declared.{Account.Account, Contract.Contract, Order.Order, State.State}
 use Rattle.rules.specs.declared.Command.the-variants.{Settle}
-use Rattle.rules.specs.declared.Contract.{Contract}
-use Rattle.rules.specs.declared.Order.{Order}
-use Rattle.rules.specs.declared.State.{State}
 use Rattle.rules.proofs.InUse.{contracts-in-use, listing-in-use, account-in-use}
 use Rattle.rules.proofs.Refusals.{failed}
 use Rattle.invariants.proofs.MemoryKeeps.{accepted-read, accepted-keeps}

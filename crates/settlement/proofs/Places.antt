@@ -1,10 +1,7 @@
 -- Lists whose first places are written anew, as the memory's laws have them. Assumes nothing.
-use mathlib.Core.List.{List, [], _∷_, map}
-use mathlib.Core.Path.{_≡_, refl, ap, _∙_}
-use Prim.Native.Nat.{ℕ, zero, suc, _≤_}
-use native.Mathlib.Nat.{le-of-suc-le-suc, not-suc-le-zero}
-use lib.ListN.{length, getD, take, replicate, length-map, List·getD-map}
-use lib.Seq.{getD-take, length-take-le}
+use Rattle.laws.specs.Logic.{List, [], _∷_, map, _≡_, refl, ap, _∙_}
+use Rattle.laws.specs.Numbers.{ℕ, zero, suc, _≤_, le-of-suc-le-suc, not-suc-le-zero, length, getD, take, replicate, length-map, List·getD-map, length-take-le}
+use Rattle.laws.specs.Numbers.{getD-take}
 use Rattle.laws.specs.Tabulate.{tabulate, length-tabulate, tabulate-eq}
 use Rattle.laws.specs.Written.{written}
 use Rattle.areas.specs.Lists.{padded}

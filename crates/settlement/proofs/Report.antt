@@ -1,9 +1,7 @@
 -- What a settlement prints, in arrays with zeros past the counts: prices contract by contract, charged margin account by account.
 -- Assumes nothing.
-use mathlib.Core.List.{List}
-use mathlib.Core.Path.{_≡_, refl, _∙_}
-use Prim.Native.Nat.{ℕ, _+_, _<_, _≤_}
-use lib.ListN.{getD, set, replicate}
+use Rattle.laws.specs.Logic.{List, _≡_, refl, _∙_}
+use Rattle.laws.specs.Numbers.{ℕ, _+_, _<_, _≤_, getD, set, replicate}
 use Rattle.laws.specs.Tabulate.{tabulate}
 use Rattle.laws.specs.Written.{Writing, writing-none, writing-more, writing-done}
 use Rattle.areas.specs.Lists.{padded}

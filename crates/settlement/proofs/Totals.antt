@@ -1,25 +1,16 @@
 -- An account's profit over the contracts, as a loop adds it up. Assumes nothing.
-use mathlib.Core.Bool.{true, false}
-use mathlib.Core.List.{List}
-use mathlib.Core.Path.{_≡_, refl, sym, ap, ap₂, _∙_}
-use Prim.Native.Nat.{ℕ, _+_, _*_, _<_, _≤_}
-use native.Mathlib.Nat.{mul-le-mul-left}
-use native.Mathlib.Numerals.{add-one}
-use native.Mathlib.Omega.{arith}
 use lib.IntN.{ℤ, pos, _+ℤ_, _*ℤ_, *ℤ-comm}
-use lib.ListN.{length, getD}
-use lib.Seq.{getD-take}
 use mir.Syntax.{w64}
 use mir.Val.{SFits, toZ, ofZ}
+use Rattle.laws.specs.Logic.{true, false, List, _≡_, refl, sym, ap, ap₂, _∙_}
+use Rattle.laws.specs.Numbers.{ℕ, _+_, _*_, _<_, _≤_, mul-le-mul-left, add-one, arith, length, getD, getD-take}
 use Rattle.laws.specs.Bound.{Within, within-le, within-zero, within-add, within-times}
 use Rattle.laws.specs.Sums.{sumTo, sumTo-ext}
 use Rattle.laws.proofs.Signed.{back, total-fits, total-back}
 use Rattle.rules.specs.Exchange.{Exchange, contractAt, heldAt, holdingAt, noContract, noHolding}
 use Rattle.rules.specs.Memory.{recordedTrades}
 use Rattle.rules.specs.Settlement.{dayOf, holdingGain, settlementPrice, closingProfit, holdingProfit}
-use Rattle.rules.specs.declared.Account.{Account}
-use Rattle.rules.specs.declared.Contract.{Contract}
-use Rattle.rules.specs.declared.State.{State}
+use Rattle.rules.specs.declared.{Account.Account, Contract.Contract, State.State}
 use Rattle.dayprofit.specs.Sides.{Profitable}
 use Rattle.dayprofit.specs.Slots.{SumsAre, UsedAre, Rooms, DayFrom}
 use Rattle.dayprofit.proofs.Gains.{Summed, day-small, closing-by-slots, holding-by-slots}
@@ -45,10 +36,7 @@ module _ (f : ℕ → ℤ) where
     unfolding sumTo
     adding-more =
         let b : toZ w64 (ofZ w64 (toZ w64 t +ℤ toZ w64 (ofZ w64 v))) ≡ toZ w64 t +ℤ v = total-back t (w .small) small (omega arith) in
-        record {
-          total = rw (add-one c) (b ∙ rw (w .total, e));
-          small = rw b (within-le (omega arith) (within-add (w .small) small));
-        }
+        record { total = rw (add-one c) (b ∙ rw (w .total, e)); small = rw b (within-le (omega arith) (within-add (w .small) small)) }
 
 -- a profit as the code reads it from its bits, and times a multiplier
 module _ (k : ℕ) (z : ℤ) (h : k ≤ 1_000) (w : Within 4_000_000_000_000 z) where

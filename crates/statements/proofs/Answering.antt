@@ -1,12 +1,6 @@
 -- A statement's refusals, one after the other, and what the output area holds. Assumes nothing.
-use mathlib.Core.Bool.{Bool, true, false, not}
-use mathlib.Core.List.{List, [], _∷_}
-use mathlib.Core.Path.{_≡_, refl, sym, ap, subst, _∙_}
-use Prim.Native.Nat.{ℕ, _<_, _≤_}
-use native.Mathlib.Omega.{arith}
-use borrow.Author.Tests.{lt-ltb, le-ltb}
-use lib.Dec.{eqb, ltb}
-use lib.ListN.{length}
+use Rattle.laws.specs.Logic.{Bool, true, false, not, List, [], _∷_, _≡_, refl, sym, ap, subst, _∙_}
+use Rattle.laws.specs.Numbers.{ℕ, _<_, _≤_, arith, lt-ltb, le-ltb, eqb, ltb, length}
 use Rattle.areas.specs.Lists.{over}
 use Rattle.rules.specs.Answers.{Refusal, firstOf, _when_}
 use Rattle.rules.specs.Exchange.{Exchange}
@@ -49,8 +43,7 @@ module _ (y : Exchange) (clients : ℕ) (out : List ℕ) where
     past-27 = code-later 27 (not (neverClosesMore y)) _ (ap not covered)
 
     pub told-29 : (n : ℕ) → n ≡ length (statementOf y clients) → length out < n → (r : Statement) → r ≡ refusedWith 29 → ToldIs y clients out r out
-    told-29 n e h r w =
-        refused-is _ 29 (past-27 ∙ code-here 29 _ [] (lt-ltb (length out) (length (statementOf y clients)) (omega arith))) refl r w
+    told-29 n e h r w = refused-is _ 29 (past-27 ∙ code-here 29 _ [] (lt-ltb (length out) (length (statementOf y clients)) (omega arith))) refl r w
 
     pub told-0 : (n : ℕ) → n ≡ length (statementOf y clients) → n ≤ length out → (out′ : List ℕ) → out′ ≡ over out 0 (statementOf y clients)
         → ToldIs y clients out (record { code = 0; length = n }) out′

@@ -1,13 +1,7 @@
 -- A well-formed state whose trades are posted has all that the clients' day is worked out from, and that day is the clients' exchange.
 -- Assumes nothing.
-use mathlib.Core.Bool.{Bool, true, false, not}
-use mathlib.Core.List.{List, [], _∷_, map}
-use mathlib.Core.Path.{_≡_, refl, sym, ap, subst, _∙_}
-use Prim.Native.Nat.{ℕ, _*_, _<_, _≤_}
-use native.Mathlib.Omega.{arith}
-use borrow.Author.Tests.{le-ltb, eqb-true, ltb-true, ltb-false}
-use lib.Dec.{eqb, ltb}
-use lib.ListN.{length, getD, length-map}
+use Rattle.laws.specs.Logic.{Bool, true, false, not, List, [], _∷_, map, _≡_, refl, sym, ap, subst, _∙_}
+use Rattle.laws.specs.Numbers.{ℕ, _*_, _<_, _≤_, arith, eqb-true, ltb-true, ltb-false, le-ltb, eqb, ltb, length, getD, length-map}
 use Rattle.laws.specs.Choice.{pick, all-at, allOf, allOf-at, both-true}
 use Rattle.laws.specs.Lists.{getD-map-lt}
 use Rattle.laws.specs.Tabulate.{tabulate, getD-tabulate}
@@ -17,8 +11,7 @@ use Rattle.rules.specs.Bounds.{maxTrades, maxContracts, maxLimit}
 use Rattle.rules.specs.Exchange.{Exchange, accountAt, contractAt, holdingAt, listingAt, noAccount, noHolding, noTrade}
 use Rattle.rules.specs.Memory.{Memory, exchangeOf, listingIn, recordedTrades, tradeWords, used, wellFormedMemory, memory, tradeStride, tradesWords}
 use Rattle.rules.specs.WellFormed.{tradeInRange}
-use Rattle.rules.specs.declared.State.{State}
-use Rattle.rules.specs.declared.Trade.{Trade}
+use Rattle.rules.specs.declared.{State.State, Trade.Trade}
 use Rattle.rules.proofs.Codecs.{length-trades, trade-codec}
 use Rattle.rules.proofs.InUse.{accounts-in-use, contracts-in-use}
 use Rattle.accounting.proofs.Facts.{TradeFacts, facts, trade-facts}

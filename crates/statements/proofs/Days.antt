@@ -1,13 +1,9 @@
 -- The clients' day as the code works it out: the clients as accounts, their replay, their profit, and the statement's bytes. Assumes
 -- nothing.
-use mathlib.Core.Bool.{true, false}
-use mathlib.Core.List.{List}
-use mathlib.Core.Path.{_≡_, refl, sym, ap, ap₂, _∙_}
-use Prim.Native.Nat.{ℕ, _+_, _*_, _<_, _≤_}
 use native.Mathlib.Nat.{mul-assoc, mul-comm}
-use native.Mathlib.Omega.{arith}
 use lib.IntN.{ℤ, pos}
-use lib.ListN.{length, getD, length-append}
+use Rattle.laws.specs.Logic.{true, false, List, _≡_, refl, sym, ap, ap₂, _∙_}
+use Rattle.laws.specs.Numbers.{ℕ, _+_, _*_, _<_, _≤_, arith, length, getD, length-append}
 use Rattle.laws.specs.Bound.{within-pos}
 use Rattle.laws.specs.Tabulate.{tabulate, length-tabulate, getD-tabulate}
 use Rattle.areas.specs.Lists.{over, padded}
@@ -18,9 +14,7 @@ use Rattle.rules.specs.Exchange.{Exchange, Listing, accountAt, contractAt, held
 use Rattle.rules.specs.Holdings.{bookTrades, neverBelowZero, startOfDay}
 use Rattle.rules.specs.Memory.{Declared, exchangeOf, inUse, listingIn, recordedTrades, used, memory}
 use Rattle.rules.specs.Settlement.{closingProfit, dayStart, legs, holdingProfit, settlementPrice}
-use Rattle.rules.specs.declared.Account.{Account}
-use Rattle.rules.specs.declared.State.{State}
-use Rattle.rules.specs.declared.Trade.{Trade}
+use Rattle.rules.specs.declared.{Account.Account, State.State, Trade.Trade}
 use Rattle.rules.proofs.Codecs.{length-trades}
 use Rattle.rules.proofs.InUse.{contracts-in-use, listing-in-use, used-at, used-holding}
 use Rattle.accounting.specs.DayLegs.{AllCovered}
@@ -71,8 +65,7 @@ module _ {s : State} {buys sells area starts : List ℕ} {clients legs′ : ℕ}
 
   client-at : (k c : ℕ) → k < clientPlaces → c < n → holdingAt accounts k c ≡ holdingAt (tabulate clientPlaces (clientAccount (clientsWith clients starts))) k c
   client-at k c lk lc =
-      sym (used-holding n clientPlaces accounts k c lk lc)
-      ∙ ap (λ (l : List Account). holdingAt l k c) used-clients
+      sym (used-holding n clientPlaces accounts k c lk lc) ∙ ap (λ (l : List Account). holdingAt l k c) used-clients
       ∙ used-holding n clientPlaces (tabulate clientPlaces (clientAccount (clientsWith clients starts))) k c lk lc
 
   start : accounts ≡ startOfDay accounts
@@ -261,8 +254,7 @@ module _ {s : State} {buys sells area starts : List ℕ} {clients legs′ : ℕ}
     unfolding statementOf clientsDay
     told-is = rw (g .legs-are, holdings-told, profits-told, contracts-are)
 
-    pub tellable : (out : List ℕ) → size ≤ length out
-        → Tellable area (s .tradecount) legs′ (h .accounts) (r .closing) (r .holding) clients n out
+    pub tellable : (out : List ℕ) → size ≤ length out → Tellable area (s .tradecount) legs′ (h .accounts) (r .closing) (r .holding) clients n out
     tellable out room =
         record {
           few-clients = g .few;

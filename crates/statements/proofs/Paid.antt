@@ -1,12 +1,7 @@
 -- "The sum of client closing and holding profit together equals the account's day profit": for every statement that is not refused.
 -- Assumes nothing.
-use mathlib.Core.Bool.{Bool, true, false, not, true≢false}
-use mathlib.Core.List.{_∷_}
-use mathlib.Core.Path.{_≡_, refl}
-use Prim.Native.Nat.{ℕ}
-use native.Mathlib.Omega.{arith}
-use borrow.Author.Tests.{ltb-false}
-use lib.Dec.{ltb}
+use Rattle.laws.specs.Logic.{Bool, true, false, not, true≢false, _∷_, _≡_, refl}
+use Rattle.laws.specs.Numbers.{ℕ, arith, ltb-false, ltb}
 use Rattle.laws.specs.Choice.{either-false}
 use Rattle.rules.specs.Answers.{_when_}
 use Rattle.rules.specs.Exchange.{Exchange, placeOf}

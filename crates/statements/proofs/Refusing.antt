@@ -1,18 +1,11 @@
 -- From the tests as the code makes them to the code of a statement. Assumes nothing.
-use mathlib.Core.Bool.{Bool, true, false, not, _&&_, _||_}
-use mathlib.Core.List.{List}
-use mathlib.Core.Path.{_≡_, refl, sym, ap, _∙_}
-use Prim.Native.Nat.{ℕ, _<_, _≤_}
-use native.Mathlib.Omega.{arith}
-use borrow.Author.Tests.{eqb-false, le-ltb, lt-ltb, ltb-false, not-false}
-use lib.Dec.{eqb, ltb}
-use lib.ListN.{length, getD}
+use Rattle.laws.specs.Logic.{Bool, true, false, not, _&&_, _||_, List, _≡_, refl, sym, ap, _∙_}
+use Rattle.laws.specs.Numbers.{ℕ, _<_, _≤_, arith, eqb-false, ltb-false, lt-ltb, le-ltb, not-false, eqb, ltb, length, getD}
 use Rattle.laws.specs.Choice.{all, all-ext, either-false, true-either, either-true}
 use Rattle.rules.specs.Answers.{firstOf}
 use Rattle.rules.specs.Exchange.{Exchange, absent, noAccount, noHolding, placeOf, isAbsent}
 use Rattle.rules.specs.Memory.{Memory, exchangeOf, wellFormedMemory, WellFormedState, memory}
-use Rattle.rules.specs.declared.Holding.{Holding}
-use Rattle.rules.specs.declared.State.{State}
+use Rattle.rules.specs.declared.{Holding.Holding, State.State}
 use Rattle.rules.proofs.InUse.{contracts-in-use, holding-in-use}
 use Rattle.engine.proofs.Formed.{formed, no-account}
 use Rattle.statements.specs.Parts.{AnswerIs, Postable, PostedIs, broker, refusedWith}
@@ -99,8 +92,7 @@ module _ (s : State) (buys sells trades : List ℕ) (f : WellFormedState s buys 
       adds-is : t ≡ startsAddUp (exchangeOf memory′) (placeOf account) b′
       unfolding startsAddUp
       adds-is =
-          et
-          ∙ rw (ek, ep, contracts-in-use memory′)
+          et ∙ rw (ek, ep, contracts-in-use memory′)
           (all-ext _ _ (s .contractcount)
           (λ c lc. ap (λ (h : Holding). eqb (total clients (λ i. startLong starts i c)) (h .startlong) && eqb (total clients (λ i. startShort starts i c)) (h .startshort))
           (sym (holding-in-use memory′ (placeOf account) c (omega (arith, account-low account (s .accountcount) present, account-high account (s .accountcount) present)) lc))))

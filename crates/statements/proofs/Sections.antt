@@ -1,14 +1,7 @@
 -- The statement's bytes written one after the other. Assumes nothing.
-use mathlib.Core.Bool.{Bool, true, false}
-use mathlib.Core.List.{List, [], _∷_, _++_}
-use mathlib.Core.Path.{_≡_, refl}
-use Prim.Native.Nat.{ℕ, _+_, _*_, _<_, _≤_}
-use native.Mathlib.Nat.{mul-le-mul-right}
-use native.Mathlib.Omega.{arith}
-use borrow.Author.Tests.{lt-ltb, le-ltb}
-use lib.Dec.{eqb}
 use lib.IntN.{ℤ}
-use lib.ListN.{length, getD, length-append}
+use Rattle.laws.specs.Logic.{Bool, true, false, List, [], _∷_, _++_, _≡_, refl}
+use Rattle.laws.specs.Numbers.{ℕ, _+_, _*_, _<_, _≤_, mul-le-mul-right, arith, lt-ltb, le-ltb, eqb, length, getD, length-append}
 use Rattle.laws.specs.Choice.{pick}
 use Rattle.areas.specs.Lists.{over}
 use Rattle.rules.specs.Bounds.{maxResting}
