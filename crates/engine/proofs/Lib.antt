@@ -1,6 +1,5 @@
 -- The laws that the proofs of this crate apply. Assumes nothing.
 pub mod Accounts
-pub mod Changes
 pub mod Decisions
 pub mod Declared
 pub mod Formed

@@ -10,7 +10,6 @@ use crate::settling::Response;
 use changing::Asked;
 use engine::answers::Outcome;
 use engine::payments;
-use engine::phases;
 use engine::removal;
 use engine::updates;
 use engine::updates::Carried;
@@ -128,7 +127,7 @@ pub fn carry_out(
             insertion::trade(accounts, a, buys, sells, trades)
         }
         Pending::Matching(contract) => {
-            opening::leave_auction(state, buys, sells, trades, contract)
+            phases::leave_auction(state, buys, sells, trades, contract)
         }
     }
 }

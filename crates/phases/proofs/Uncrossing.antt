@@ -36,13 +36,13 @@ use Rattle.engine.specs.Outcome.{isMatch, refusedWith}
 use Rattle.engine.specs.declared.updates.Carried.{Carried}
 use Rattle.engine.specs.declared.updates.Listed.{Listed}
 use Rattle.engine.proofs.Decisions.{listed-lies}
-use Rattle.engine.proofs.Changes.{from-auction, phase-code}
+use Rattle.phases.proofs.Changes.{from-auction, phase-code}
 use Rattle.engine.proofs.Formed.{Formed, accounts-count, contracts-count, formed, listing-at}
 use Rattle.engine.proofs.Margins.{chargeable}
 use Rattle.engine.proofs.Outcomes.{acceptance, refusal}
 use Rattle.engine.proofs.Tests.{place-below}
 use Rattle.engine.proofs.Traded.{put-traded}
-use Rattle.opening.specs.Opening.{matchedAs, refusedAt}
+use Rattle.phases.specs.AfterMatch.{matchedAs, refusedAt}
 
 module _ {s : State} {buys sells trades : List ℕ} (w : WellFormedState s buys sells trades) (contract : ℕ) (yes : isMatch s contract continuous ≡ true) where
   abbrev m : Memory

@@ -1,9 +1,9 @@
--- `opening::leave_auction` meets its contract: one law for the refusal, one for the match. Assumes nothing.
+-- `phases::leave_auction` meets its contract: one law for the refusal, one for the match. Assumes nothing.
 use native.Mathlib.Omega.{arith}
 use borrow.Author.Needs.{needs}
-use Rattle.opening.proofs.Uncrossing.{contract-low, place-fits, queues, needed-few, left-full, left-ready, left-accepted}
-use Rattle.opening.proofs.leave_auction.Statement.{statement}
-use Rattle.opening.proofs.leave_auction.Tie as tie
+use Rattle.phases.proofs.Uncrossing.{contract-low, place-fits, queues, needed-few, left-full, left-ready, left-accepted}
+use Rattle.phases.proofs.leave_auction.Statement.{statement}
+use Rattle.phases.proofs.leave_auction.Tie as tie
 
 -- back to the start
 abbrev Begun : tie.After-sellcounts → tie.Start

@@ -1,8 +1,8 @@
 -- `phases::is_listed` meets its contract: the changes listed, by the state they start from. Assumes nothing.
 use borrow.Author.Tests.{ne-eqb}
-use Rattle.engine.proofs.Changes.{from-pre-open, from-continuous, from-no-trading, from-auction, from-other}
-use Rattle.engine.proofs.phases.is_listed.Statement.{statement}
-use Rattle.engine.proofs.phases.is_listed.Tie as tie
+use Rattle.phases.proofs.Changes.{from-pre-open, from-continuous, from-no-trading, from-auction, from-other}
+use Rattle.phases.proofs.is_listed.Statement.{statement}
+use Rattle.phases.proofs.is_listed.Tie as tie
 
 pub is-listed-spec : {M : Type 1} → statement M
 is-listed-spec = tie.close (tie.spec

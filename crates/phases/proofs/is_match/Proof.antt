@@ -5,10 +5,10 @@ use Prim.Native.Nat.{_<_}
 use native.Mathlib.Omega.{arith}
 use borrow.Author.Needs.{needs}
 use Rattle.rules.specs.Exchange.{isAbsent}
-use Rattle.engine.proofs.Changes.{other-phase, no-such-contract, match-by-phase}
+use Rattle.phases.proofs.Changes.{other-phase, no-such-contract, match-by-phase}
 use Rattle.engine.proofs.Tests.{place-below}
-use Rattle.engine.proofs.phases.is_match.Statement.{statement}
-use Rattle.engine.proofs.phases.is_match.Tie as tie
+use Rattle.phases.proofs.is_match.Statement.{statement}
+use Rattle.phases.proofs.is_match.Tie as tie
 
 -- back to the call of `is-absent`
 abbrev Is-absent : tie.After-contracts → tie.After-is-absent

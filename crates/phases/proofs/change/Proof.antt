@@ -2,12 +2,12 @@
 use mathlib.Core.Path.{sym, _∙_}
 use borrow.Author.Needs.{needs}
 use borrow.Author.Tests.{not-true, not-false}
-use Rattle.engine.proofs.Changes.{phase-unknown, phase-absent, phase-unlisted, phase-accepted}
+use Rattle.phases.proofs.Changes.{phase-unknown, phase-absent, phase-unlisted, phase-accepted}
 use Rattle.engine.proofs.Decisions.{match-decided}
 use Rattle.engine.proofs.Formed.{contract-fits, formed}
 use Rattle.engine.proofs.Tests.{place-below}
-use Rattle.engine.proofs.phases.change.Statement.{statement}
-use Rattle.engine.proofs.phases.change.Tie as tie
+use Rattle.phases.proofs.change.Statement.{statement}
+use Rattle.phases.proofs.change.Tie as tie
 
 abbrev start : tie.After-is-match → tie.Start
 start c = c .before .before .before .before
