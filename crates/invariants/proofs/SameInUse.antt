@@ -8,7 +8,7 @@ use lib.Dec.{eqb}
 use lib.IntN.{ℤ, pos, _+ℤ_, _-ℤ_, _*ℤ_}
 use lib.ListN.{length}
 use Rattle.laws.specs.Sums.{sumOf, sumTo}
-use Rattle.rules.specs.Condition3.{run, isAccepted, moveOf, movesOf, inTo, outOf, paidIn, paidOut, made, tradesMade, sales, costs, netHolding, balanceIn, netIn, loaded, loadedWorth, worth, EndsSettled, Condition3}
+use Rattle.rules.specs.Condition3.{run, isAccepted, moveOf, movesOf, inTo, outOf, paidIn, paidOut, made, tradesMade, sales, costs, netHolding, balanceIn, netIn, loaded, loadedWorth, soldFor, costOf, atPrices, EndsSettled, Condition3}
 use Rattle.rules.specs.Exchange.{Exchange, accountAt, holdingAt, listingAt}
 use Rattle.rules.specs.Kinds.{Move, decide, step}
 use Rattle.rules.specs.Memory.{Memory, exchangeOf, respond, stepIn, wellFormedMemory}
@@ -75,14 +75,16 @@ module _ (m′ : Memory) (x : Exchange) (vs : List Move) where
       sumTo accounts (balanceIn m′)
       ≡ (sumTo accounts balanceOf +ℤ sumTo accounts (λ a. pos (sumOf (inTo a) vs))) -ℤ sumTo accounts (λ a. pos (sumOf (outOf a) vs))
 
+  -- values by contract, times the multiplier
+  abbrev inAll : (ℕ → ℤ) → ℤ
+  inAll value = sumTo (length (x .listings)) (λ c. pos (listingAt x c .contract .multiplier) *ℤ value c)
+
   abbrev Each : ℕ → Exchange → Type 0
   Each a found =
       balanceIn m′ a
-      ≡ (((balanceOf a -ℤ sumTo (length (x .listings)) (λ c. pos (listingAt x c .contract .multiplier) *ℤ (pos (listingAt x c .contract .reference) *ℤ netOf a c)))
-      +ℤ pos (sumOf (inTo a) vs)) -ℤ pos (sumOf (outOf a) vs))
-      +ℤ sumTo (length (x .listings))
-      (λ c. pos (listingAt x c .contract .multiplier)
-      *ℤ ((pos (sales a c (made vs)) -ℤ pos (costs a c (made vs))) +ℤ pos (settlementPrice found c) *ℤ (netOf a c +ℤ netHolding a c (made vs))))
+      ≡ balanceOf a -ℤ inAll (λ c. pos (listingAt x c .contract .reference) *ℤ netOf a c) +ℤ pos (sumOf (inTo a) vs) -ℤ pos (sumOf (outOf a) vs)
+      +ℤ inAll (λ c. pos (sales a c (made vs))) -ℤ inAll (λ c. pos (costs a c (made vs)))
+      +ℤ inAll (λ c. pos (settlementPrice found c) *ℤ (netOf a c +ℤ netHolding a c (made vs)))
 
   abbrev Net : ℕ → ℕ → Type 0
   Net a c = netIn m′ a c ≡ netOf a c +ℤ netHolding a c (made vs)
@@ -97,7 +99,7 @@ module _ (m n : Memory) (s : Same m n) (cs : List Command) (m′ : Memory) (clai
       record { ends = e .ends; accepted = same-accepted (same-run m n s before) Settle ∙ e .accepted }
 
   pub same-claim : Condition3 (loaded n) n cs m′
-  unfolding paidIn paidOut tradesMade loadedWorth worth
+  unfolding paidIn paidOut tradesMade loadedWorth soldFor costOf atPrices
   same-claim = record {
     together = said (Together m′) (claim .together);
     each = λ before e a l.
