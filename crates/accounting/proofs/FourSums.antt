@@ -16,7 +16,7 @@ use Rattle.laws.specs.Ring.{split, d-eq, ring, *ℤ-add}
 use Rattle.laws.specs.Sums.{sumOf, sumTo, sumTo-ext, sumTo-add}
 use Rattle.rules.specs.Article32.{ByArticle32, Figures, overlap, closedHistory, closedToday, figures, figuresOf, heldHistory, heldToday, inAll, lotsIn, thoseThat, Σover}
 use Rattle.rules.specs.Exchange.{Exchange, listingAt, holdingAt}
-use Rattle.rules.specs.Settlement.{Leg, leg, legs, Batch, Day, dayStart, gain, firstLots, otherLots, opened, afterDayLeg, afterLegs, dayOf, holdingGain, settlementPrice, closingProfit, holdingProfit}
+use Rattle.rules.specs.Settlement.{Leg, leg, legs, Batch, Day, dayStart, gain, firstLots, otherLots, withBatch, afterDayLeg, afterLegs, dayOf, holdingGain, settlementPrice, closingProfit, holdingProfit}
 use Rattle.rules.specs.WellFormed.{wellFormedContents}
 use Rattle.accounting.specs.DayLegs.{Covered, AllCovered}
 use Rattle.accounting.proofs.DayProfit.{lots-opened, lots-other}
@@ -50,7 +50,7 @@ other-other n k (b ∷ bs) =
     ap₂ (λ (l : ℕ) (r : List Batch). record { price = b .price; lots = l } ∷ r) e
     (other-other (n - b .lots) (k - (b .lots - n)) bs ∙ ap (λ (j : ℕ). otherLots j bs) (omega arith))
 
-other-opened : (n : ℕ) (bs : List Batch) (p m : ℕ) → n ≤ lotsIn bs → opened (otherLots n bs) p m ≡ otherLots n (opened bs p m)
+other-opened : (n : ℕ) (bs : List Batch) (p m : ℕ) → n ≤ lotsIn bs → withBatch (otherLots n bs) p m ≡ otherLots n (withBatch bs p m)
 unfolding otherLots sumOf
 other-opened n [] p m h = let e : m - n ≡ m = omega arith in rw e
 other-opened n (b ∷ bs) p m h =
@@ -160,10 +160,10 @@ nothing-behind : (value : ℕ → ℤ) (a n b : ℕ) (bs : List Batch) → a + n
 unfolding Σover
 nothing-behind value a n b [] h = refl
 nothing-behind value a n b (c ∷ bs) h =
-    rw (none-in-common a n b (c .lots) h, nothing-behind value a n (b + c .lots) bs (omega arith)) (nought (value (c .price)))
+    rw (none-in-common a n b (c .lots) h, nothing-behind value a n (b + c .lots) bs (omega arith)) (times-zero (value (c .price)))
   where
-    nought : (v : ℤ) → v *ℤ pos 0 +ℤ pos 0 ≡ pos 0
-    nought v = rw (split v) (simp ring (d-eq _ _ _ _ (omega arith)))
+    times-zero : (v : ℤ) → v *ℤ pos 0 +ℤ pos 0 ≡ pos 0
+    times-zero v = rw (split v) (simp ring (d-eq _ _ _ _ (omega arith)))
 
 -- a close of n lots behind `gone` others, against the whole line of the day: what comes behind it plays no part
 one-close : (value : ℕ → ℤ) (gone n : ℕ) (line more : List Batch) → gone + n ≤ lotsIn line →
@@ -208,10 +208,10 @@ record Stands (open′ line : List Batch) (gone : ℕ) : Type 0 where
   left-over : open′ ≡ otherLots gone line
   covered : gone ≤ lotsIn line
 
-opens-behind : {open′ line : List Batch} {gone : ℕ} (p n : ℕ) → Stands open′ line gone → Stands (opened open′ p n) (opened line p n) gone
+opens-behind : {open′ line : List Batch} {gone : ℕ} (p n : ℕ) → Stands open′ line gone → Stands (withBatch open′ p n) (withBatch line p n) gone
 opens-behind {open′} {line} {gone} p n s =
     record {
-      left-over = ap (λ (bs : List Batch). opened bs p n) (s .left-over) ∙ other-opened gone line p n (s .covered);
+      left-over = ap (λ (bs : List Batch). withBatch bs p n) (s .left-over) ∙ other-opened gone line p n (s .covered);
       covered = omega (arith, lots-opened line p n, s .covered);
     }
 
@@ -229,7 +229,7 @@ paid {open′} {line} {gone} value n more h s =
     ap (λ (bs : List Batch). worth value (firstLots n bs)) (s .left-over) ∙ one-close value gone n line more (closes-front n h s .covered)
 
 -- an open that comes is the next of the day's
-next-open : (line : List Batch) (p n : ℕ) (more : List Batch) → opened line p n ++ more ≡ line ++ (record { price = p; lots = n } ∷ more)
+next-open : (line : List Batch) (p n : ℕ) (more : List Batch) → withBatch line p n ++ more ≡ line ++ (record { price = p; lots = n } ∷ more)
 next-open line p n more = append-assoc line (record { price = p; lots = n } ∷ []) more
 
 add-long : (c g l s w : ℤ) → w ≡ g → c +ℤ w +ℤ (l +ℤ s) ≡ c +ℤ (g +ℤ l +ℤ s)
@@ -268,7 +268,7 @@ at-end {open′} {line} {gone} s =
     let e : gone + 0 ≡ gone = omega arith in
     s .left-over ∙ ap₂ (λ (k : ℕ) (l : List Batch). otherLots k l) (sym e) (sym (append-nil line))
 
-with-open : (open′ line more : List Batch) (gone p n : ℕ) → open′ ≡ otherLots gone (opened line p n ++ more) →
+with-open : (open′ line more : List Batch) (gone p n : ℕ) → open′ ≡ otherLots gone (withBatch line p n ++ more) →
     open′ ≡ otherLots gone (line ++ (record { price = p; lots = n } ∷ more))
 with-open open′ line more gone p n e = e ∙ ap (otherLots gone) (next-open line p n more)
 

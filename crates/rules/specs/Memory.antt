@@ -143,7 +143,8 @@ exchangeOf m =
     }
 
 -- ---- "Room beyond a count .. is unaltered, except that places newly in use are written, and places no longer in use are
--- set to zero." What that leaves at each place is one law: `put-told` (invariants, proofs/PutTold, in the words of specs/ByPlace).
+-- set to zero." What that leaves at each place is one law: `put-by-place` (invariants, proofs/StepByPlace, in the words of
+-- specs/ByPlace).
 
 -- contract c's queue written over one of `before` orders
 unfoldable pub putQueue : List ℕ → ℕ → ℕ → List Order → List ℕ
