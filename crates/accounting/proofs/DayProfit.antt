@@ -8,7 +8,7 @@ use Rattle.laws.specs.Numbers.{ℕ, _+_, _-_, _*_, _≤_, min, arith}
 use Rattle.laws.specs.Ring.{split, d-eq, d-inj, ring}
 use Rattle.laws.specs.Sums.{sumOf, sumOf-append}
 use Rattle.rules.specs.Article32.{lotsIn}
-use Rattle.rules.specs.Settlement.{Leg, leg, Batch, Day, dayStart, gain, firstLots, otherLots, opened, afterDayLeg, afterLegs, holdingGain}
+use Rattle.rules.specs.Settlement.{Leg, leg, Batch, Day, dayStart, gain, firstLots, otherLots, withBatch, afterDayLeg, afterLegs, holdingGain}
 use Rattle.accounting.specs.DayLegs.{flow, net, netOpen, Covered, AllCovered}
 
 -- ---- the gain of batches
@@ -18,7 +18,7 @@ unfolding gain
 gain-append p [] cs = rw (split (gain p cs)) (simp ring (d-eq _ _ _ _ (omega arith)))
 gain-append p (b ∷ bs) cs = rw (gain-append p bs cs) (rw (split (gain p bs), split (gain p cs)) (simp ring (d-eq _ _ _ _ (omega arith))))
 
-pub gain-opened : (s : ℕ) (bs : List Batch) (p n : ℕ) → gain s (opened bs p n) ≡ gain s bs +ℤ (pos s -ℤ pos p) *ℤ pos n
+pub gain-opened : (s : ℕ) (bs : List Batch) (p n : ℕ) → gain s (withBatch bs p n) ≡ gain s bs +ℤ (pos s -ℤ pos p) *ℤ pos n
 unfolding gain
 gain-opened s bs p n = gain-append s bs _ ∙ rw (split (gain s bs)) (simp ring (d-eq _ _ _ _ (omega arith)))
 
@@ -104,7 +104,7 @@ day-profit ref s long short ls c = legs-value s (dayStart ref long short) ls c �
 
 -- ---- the lots open on each side
 
-pub lots-opened : (bs : List Batch) (p n : ℕ) → lotsIn (opened bs p n) ≡ lotsIn bs + n
+pub lots-opened : (bs : List Batch) (p n : ℕ) → lotsIn (withBatch bs p n) ≡ lotsIn bs + n
 unfolding sumOf
 lots-opened bs p n = sumOf-append (λ b. b .lots) bs (record { price = p; lots = n } ∷ []) ∙ omega arith
 

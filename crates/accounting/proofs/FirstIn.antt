@@ -10,7 +10,7 @@ use Rattle.laws.specs.Ring.{split, d-eq, d-inj, ring}
 use Rattle.laws.specs.Sums.{sumOf, sumTo, sumTo-first}
 use Rattle.rules.specs.Article32.{lotsIn}
 use Rattle.rules.specs.Exchange.{Exchange, listingAt, holdingAt}
-use Rattle.rules.specs.Settlement.{Leg, leg, legs, Batch, Day, dayStart, gain, firstLots, otherLots, opened, afterDayLeg, afterLegs, dayOf, holdingGain, settlementPrice}
+use Rattle.rules.specs.Settlement.{Leg, leg, legs, Batch, Day, dayStart, gain, firstLots, otherLots, withBatch, afterDayLeg, afterLegs, dayOf, holdingGain, settlementPrice}
 use Rattle.rules.specs.WellFormed.{wellFormedContents}
 use Rattle.accounting.specs.DayLegs.{Covered, AllCovered}
 use Rattle.accounting.specs.Pairing.{Side, long, short, opens, closes, Lot, noLot, lotsOfLegs, openLots, closedLots, Pairing, gained, closingBy, inOrder, heldAtStart, openOf, closedOf, PairsDay, dayClosing, dayHolding}
@@ -177,11 +177,11 @@ singly : List Batch → List ℕ
 singly [] = []
 singly (b ∷ bs) = replicate (b .lots) (b .price) ++ singly bs
 
-singly-opened : (bs : List Batch) (p n : ℕ) (ps : List ℕ) → singly (opened bs p n) ++ ps ≡ singly bs ++ (replicate n p ++ ps)
+singly-opened : (bs : List Batch) (p n : ℕ) (ps : List ℕ) → singly (withBatch bs p n) ++ ps ≡ singly bs ++ (replicate n p ++ ps)
 unfolding singly
 singly-opened [] p n ps = ap (λ (os : List ℕ). os ++ ps) (append-nil (replicate n p))
 singly-opened (b ∷ bs) p n ps =
-    append-assoc (replicate (b .lots) (b .price)) (singly (opened bs p n)) ps
+    append-assoc (replicate (b .lots) (b .price)) (singly (withBatch bs p n)) ps
     ∙ ap (λ (os : List ℕ). replicate (b .lots) (b .price) ++ os) (singly-opened bs p n ps)
     ∙ sym (append-assoc (replicate (b .lots) (b .price)) (singly bs) (replicate n p ++ ps))
 

@@ -1,15 +1,22 @@
 -- THE DAY'S PROFIT IS ARTICLE 32'S FOUR SUMS (rules, specs/Article32). The lots open on a side are its line of lots, those of the start of
 -- the day and then the opens, without those that closes took from its front; a close gains on a batch of the line as many lots as the two
 -- have in common. Assumes nothing.
+use mathlib.Core.Bool.{Bool, true, false, not, _&&_}
+use mathlib.Core.List.{List, [], _∷_, _++_, append-assoc, append-nil}
+use mathlib.Core.Path.{_≡_, refl, sym, ap, ap₂, _∙_}
+use Prim.Native.Nat.{ℕ, _+_, _-_, _≤_, min, max}
+use native.Mathlib.Nat.{add-assoc, zero-add}
+use native.Mathlib.Omega.{arith}
+use borrow.Author.Tests.{leb-true, leb-false}
+use lib.Dec.{leb}
 use lib.IntN.{ℤ, pos, negℤ, _+ℤ_, _-ℤ_, _*ℤ_, +ℤ-assoc, +ℤ-idl, +ℤ-idr}
-use Rattle.laws.specs.Logic.{Bool, true, false, not, _&&_, List, [], _∷_, _++_, append-nil, append-assoc, _≡_, refl, sym, ap, ap₂, _∙_}
-use Rattle.laws.specs.Numbers.{ℕ, _+_, _-_, _≤_, min, max, zero-add, add-assoc, arith, leb-true, leb-false, leb, length}
+use lib.ListN.{length}
 use Rattle.laws.specs.Choice.{pick}
 use Rattle.laws.specs.Ring.{split, d-eq, ring, *ℤ-add}
 use Rattle.laws.specs.Sums.{sumOf, sumTo, sumTo-ext, sumTo-add}
-use Rattle.rules.specs.Article32.{ByArticle32, Figures, among, closedHistory, closedToday, figures, figuresOf, heldHistory, heldToday, inAll, lotsIn, thoseThat, Σover}
+use Rattle.rules.specs.Article32.{ByArticle32, Figures, overlap, closedHistory, closedToday, figures, figuresOf, heldHistory, heldToday, inAll, lotsIn, thoseThat, Σover}
 use Rattle.rules.specs.Exchange.{Exchange, listingAt, holdingAt}
-use Rattle.rules.specs.Settlement.{Leg, leg, legs, Batch, Day, dayStart, gain, firstLots, otherLots, opened, afterDayLeg, afterLegs, dayOf, holdingGain, settlementPrice, closingProfit, holdingProfit}
+use Rattle.rules.specs.Settlement.{Leg, leg, legs, Batch, Day, dayStart, gain, firstLots, otherLots, withBatch, afterDayLeg, afterLegs, dayOf, holdingGain, settlementPrice, closingProfit, holdingProfit}
 use Rattle.rules.specs.WellFormed.{wellFormedContents}
 use Rattle.accounting.specs.DayLegs.{Covered, AllCovered}
 use Rattle.accounting.proofs.DayProfit.{lots-opened, lots-other}
@@ -43,7 +50,7 @@ other-other n k (b ∷ bs) =
     ap₂ (λ (l : ℕ) (r : List Batch). record { price = b .price; lots = l } ∷ r) e
     (other-other (n - b .lots) (k - (b .lots - n)) bs ∙ ap (λ (j : ℕ). otherLots j bs) (omega arith))
 
-other-opened : (n : ℕ) (bs : List Batch) (p m : ℕ) → n ≤ lotsIn bs → opened (otherLots n bs) p m ≡ otherLots n (opened bs p m)
+other-opened : (n : ℕ) (bs : List Batch) (p m : ℕ) → n ≤ lotsIn bs → withBatch (otherLots n bs) p m ≡ otherLots n (withBatch bs p m)
 unfolding otherLots sumOf
 other-opened n [] p m h = let e : m - n ≡ m = omega arith in rw e
 other-opened n (b ∷ bs) p m h =
@@ -62,7 +69,7 @@ less-less : (k b m : ℕ) → k - b - m ≡ k - (b + m)
 less-less k b m = omega arith
 
 -- m lots from place b on, of which the n lots from place a on are taken
-taken : (a n b m : ℕ) (t : Bool) → leb b a ≡ t → min (a + n - max b a) (m - (a - b)) ≡ among b m a n
+taken : (a n b m : ℕ) (t : Bool) → leb b a ≡ t → min (a + n - max b a) (m - (a - b)) ≡ overlap b m a n
 taken a n b m true t =
     let h = leb-true b a t in
     let e : max b a ≡ a = omega arith in
@@ -90,31 +97,32 @@ left a n b m false t =
     rw (e, w, z) (less-less (a + n) b m)
 
 -- of which the first n lots of the line are taken
-front-taken : (n b m : ℕ) → m - (n - b) ≡ m - among b m 0 n
+front-taken : (n b m : ℕ) → m - (n - b) ≡ m - overlap b m 0 n
 front-taken n b m =
     let e : max b 0 ≡ b = omega arith in
     let z : 0 + n ≡ n = omega arith in
     rw (e, z) (omega arith)
 
 -- what the n lots from place a on are worth, of a line whose first place is b
-first-among : (value : ℕ → ℤ) (a n b : ℕ) (bs : List Batch) →
-    worth value (firstLots (a + n - max b a) (otherLots (a - b) bs)) ≡ Σover b bs (λ b q m. value q *ℤ pos (among b m a n))
+first-overlap : (value : ℕ → ℤ) (a n b : ℕ) (bs : List Batch) →
+    worth value (firstLots (a + n - max b a) (otherLots (a - b) bs)) ≡ Σover b bs (λ b q m. value q *ℤ pos (overlap b m a n))
 unfolding worth firstLots otherLots Σover
-first-among value a n b [] = refl
-first-among value a n b (c ∷ bs) =
+first-overlap value a n b [] = refl
+first-overlap value a n b (c ∷ bs) =
     let g : a - b - c .lots ≡ a - (b + c .lots) = omega arith in
     ap₂ (λ (k : ℕ) (z : ℤ). value (c .price) *ℤ pos k +ℤ z) (taken a n b (c .lots) (leb b a) refl)
-    (ap₂ (λ (j k : ℕ). worth value (firstLots j (otherLots k bs))) (left a n b (c .lots) (leb b a) refl) g ∙ first-among value a n (b + c .lots) bs)
+    (ap₂ (λ (j k : ℕ). worth value (firstLots j (otherLots k bs))) (left a n b (c .lots) (leb b a) refl) g
+    ∙ first-overlap value a n (b + c .lots) bs)
 
 -- what is left of a line, the first n lots taken
-other-among : (value : ℕ → ℤ) (n b : ℕ) (bs : List Batch) →
-    worth value (otherLots (n - b) bs) ≡ Σover b bs (λ b q m. value q *ℤ pos (m - among b m 0 n))
+other-overlap : (value : ℕ → ℤ) (n b : ℕ) (bs : List Batch) →
+    worth value (otherLots (n - b) bs) ≡ Σover b bs (λ b q m. value q *ℤ pos (m - overlap b m 0 n))
 unfolding worth otherLots Σover
-other-among value n b [] = refl
-other-among value n b (c ∷ bs) =
+other-overlap value n b [] = refl
+other-overlap value n b (c ∷ bs) =
     let g : n - b - c .lots ≡ n - (b + c .lots) = omega arith in
     ap₂ (λ (k : ℕ) (z : ℤ). value (c .price) *ℤ pos k +ℤ z) (front-taken n b (c .lots))
-    (ap (λ (k : ℕ). worth value (otherLots k bs)) g ∙ other-among value n (b + c .lots) bs)
+    (ap (λ (k : ℕ). worth value (otherLots k bs)) g ∙ other-overlap value n (b + c .lots) bs)
 
 -- ---- sums over a line
 
@@ -124,7 +132,8 @@ module _ (part : ℕ → ℕ → ℕ → ℤ) where
   Σover-append b [] cs = let e : b + 0 ≡ b = omega arith in rw e (sym (+ℤ-idl (Σover b cs part)))
   Σover-append b (c ∷ bs) cs =
       ap (λ (z : ℤ). part b (c .price) (c .lots) +ℤ z)
-      (Σover-append (b + c .lots) bs cs ∙ ap (λ (k : ℕ). Σover (b + c .lots) bs part +ℤ Σover k cs part) (add-assoc b (c .lots) (lotsIn bs)))
+      (Σover-append (b + c .lots) bs cs
+      ∙ ap (λ (k : ℕ). Σover (b + c .lots) bs part +ℤ Σover k cs part) (add-assoc b (c .lots) (lotsIn bs)))
       ∙ sym (+ℤ-assoc (part b (c .price) (c .lots)) (Σover (b + c .lots) bs part) (Σover (b + (c .lots + lotsIn bs)) cs part))
 
   Σover-ext : (other : ℕ → ℕ → ℕ → ℤ) → ((b p n : ℕ) → part b p n ≡ other b p n) → (b : ℕ) (bs : List Batch) → Σover b bs part ≡ Σover b bs other
@@ -144,29 +153,30 @@ module _ (part : ℕ → ℕ → ℕ → ℤ) where
       turn p o y z = rw (split p, split o, split y, split z) (simp ring (d-eq _ _ _ _ (omega arith)))
 
 -- lots from a place on that a close does not reach
-none-in-common : (a n b m : ℕ) → a + n ≤ b → among b m a n ≡ 0
+none-in-common : (a n b m : ℕ) → a + n ≤ b → overlap b m a n ≡ 0
 none-in-common a n b m h = omega arith
 
-nothing-behind : (value : ℕ → ℤ) (a n b : ℕ) (bs : List Batch) → a + n ≤ b → Σover b bs (λ b q m. value q *ℤ pos (among b m a n)) ≡ pos 0
+nothing-behind : (value : ℕ → ℤ) (a n b : ℕ) (bs : List Batch) → a + n ≤ b → Σover b bs (λ b q m. value q *ℤ pos (overlap b m a n)) ≡ pos 0
 unfolding Σover
 nothing-behind value a n b [] h = refl
 nothing-behind value a n b (c ∷ bs) h =
-    rw (none-in-common a n b (c .lots) h, nothing-behind value a n (b + c .lots) bs (omega arith)) (nought (value (c .price)))
+    rw (none-in-common a n b (c .lots) h, nothing-behind value a n (b + c .lots) bs (omega arith)) (times-zero (value (c .price)))
   where
-    nought : (v : ℤ) → v *ℤ pos 0 +ℤ pos 0 ≡ pos 0
-    nought v = rw (split v) (simp ring (d-eq _ _ _ _ (omega arith)))
+    times-zero : (v : ℤ) → v *ℤ pos 0 +ℤ pos 0 ≡ pos 0
+    times-zero v = rw (split v) (simp ring (d-eq _ _ _ _ (omega arith)))
 
 -- a close of n lots behind `gone` others, against the whole line of the day: what comes behind it plays no part
 one-close : (value : ℕ → ℤ) (gone n : ℕ) (line more : List Batch) → gone + n ≤ lotsIn line →
-    worth value (firstLots n (otherLots gone line)) ≡ Σover 0 (line ++ more) (λ b q m. value q *ℤ pos (among b m gone n))
+    worth value (firstLots n (otherLots gone line)) ≡ Σover 0 (line ++ more) (λ b q m. value q *ℤ pos (overlap b m gone n))
 one-close value gone n line more h =
     let e : n ≡ gone + n - max 0 gone = omega arith in
     let g : gone ≡ gone - 0 = omega arith in
-    ap₂ (λ (j k : ℕ). worth value (firstLots j (otherLots k line))) e g ∙ first-among value gone n 0 line
-    ∙ sym (+ℤ-idr (Σover 0 line (λ b q m. value q *ℤ pos (among b m gone n))))
-    ∙ ap (λ (z : ℤ). Σover 0 line (λ b q m. value q *ℤ pos (among b m gone n)) +ℤ z)
+    ap₂ (λ (j k : ℕ). worth value (firstLots j (otherLots k line))) e g
+    ∙ first-overlap value gone n 0 line
+    ∙ sym (+ℤ-idr (Σover 0 line (λ b q m. value q *ℤ pos (overlap b m gone n))))
+    ∙ ap (λ (z : ℤ). Σover 0 line (λ b q m. value q *ℤ pos (overlap b m gone n)) +ℤ z)
     (sym (nothing-behind value gone n (0 + lotsIn line) more (omega arith)))
-    ∙ sym (Σover-append (λ b q m. value q *ℤ pos (among b m gone n)) 0 line more)
+    ∙ sym (Σover-append (λ b q m. value q *ℤ pos (overlap b m gone n)) 0 line more)
 
 -- ---- a day from its legs
 
@@ -191,17 +201,17 @@ fall to from = pos from -ℤ pos to
 
 -- closes from a place on, each against the lots of a line
 closesOn : (ℕ → ℕ → ℤ) → ℕ → List Batch → List Batch → ℤ
-closesOn value gone closes line = Σover gone closes (λ a p n. Σover 0 line (λ b q m. value p q *ℤ pos (among b m a n)))
+closesOn value gone closes line = Σover gone closes (λ a p n. Σover 0 line (λ b q m. value p q *ℤ pos (overlap b m a n)))
 
 -- a side's open lots are its line without those that are gone
 record Stands (open′ line : List Batch) (gone : ℕ) : Type 0 where
   left-over : open′ ≡ otherLots gone line
   covered : gone ≤ lotsIn line
 
-opens-behind : {open′ line : List Batch} {gone : ℕ} (p n : ℕ) → Stands open′ line gone → Stands (opened open′ p n) (opened line p n) gone
+opens-behind : {open′ line : List Batch} {gone : ℕ} (p n : ℕ) → Stands open′ line gone → Stands (withBatch open′ p n) (withBatch line p n) gone
 opens-behind {open′} {line} {gone} p n s =
     record {
-      left-over = ap (λ (bs : List Batch). opened bs p n) (s .left-over) ∙ other-opened gone line p n (s .covered);
+      left-over = ap (λ (bs : List Batch). withBatch bs p n) (s .left-over) ∙ other-opened gone line p n (s .covered);
       covered = omega (arith, lots-opened line p n, s .covered);
     }
 
@@ -214,12 +224,12 @@ closes-front {open′} {line} {gone} n h s =
 
 -- what a close of a side's lots is worth, by its price
 paid : {open′ line : List Batch} {gone : ℕ} (value : ℕ → ℤ) (n : ℕ) (more : List Batch) → n ≤ lotsIn open′ → Stands open′ line gone →
-    worth value (firstLots n open′) ≡ Σover 0 (line ++ more) (λ b q m. value q *ℤ pos (among b m gone n))
+    worth value (firstLots n open′) ≡ Σover 0 (line ++ more) (λ b q m. value q *ℤ pos (overlap b m gone n))
 paid {open′} {line} {gone} value n more h s =
     ap (λ (bs : List Batch). worth value (firstLots n bs)) (s .left-over) ∙ one-close value gone n line more (closes-front n h s .covered)
 
 -- an open that comes is the next of the day's
-next-open : (line : List Batch) (p n : ℕ) (more : List Batch) → opened line p n ++ more ≡ line ++ (record { price = p; lots = n } ∷ more)
+next-open : (line : List Batch) (p n : ℕ) (more : List Batch) → withBatch line p n ++ more ≡ line ++ (record { price = p; lots = n } ∷ more)
 next-open line p n more = append-assoc line (record { price = p; lots = n } ∷ []) more
 
 add-long : (c g l s w : ℤ) → w ≡ g → c +ℤ w +ℤ (l +ℤ s) ≡ c +ℤ (g +ℤ l +ℤ s)
@@ -258,7 +268,7 @@ at-end {open′} {line} {gone} s =
     let e : gone + 0 ≡ gone = omega arith in
     s .left-over ∙ ap₂ (λ (k : ℕ) (l : List Batch). otherLots k l) (sym e) (sym (append-nil line))
 
-with-open : (open′ line more : List Batch) (gone p n : ℕ) → open′ ≡ otherLots gone (opened line p n ++ more) →
+with-open : (open′ line more : List Batch) (gone p n : ℕ) → open′ ≡ otherLots gone (withBatch line p n ++ more) →
     open′ ≡ otherLots gone (line ++ (record { price = p; lots = n } ∷ more))
 with-open open′ line more gone p n e = e ∙ ap (otherLots gone) (next-open line p n more)
 
@@ -311,23 +321,23 @@ front-and-today part reference held opens = rw (zero-add held) refl
 -- a side's closes, against the lots of the start and against today's
 closes-split : (value : ℕ → ℕ → ℤ) (reference held : ℕ) (closes opens : List Batch) →
     closesOn value 0 closes (record { price = reference; lots = held } ∷ opens)
-    ≡ Σover 0 closes (λ a p n. value p reference *ℤ pos (among 0 held a n))
-    +ℤ Σover 0 closes (λ a p n. Σover held opens (λ b q m. value p q *ℤ pos (among b m a n)))
+    ≡ Σover 0 closes (λ a p n. value p reference *ℤ pos (overlap 0 held a n))
+    +ℤ Σover 0 closes (λ a p n. Σover held opens (λ b q m. value p q *ℤ pos (overlap b m a n)))
 unfolding closesOn
 closes-split value reference held closes opens =
-    Σover-ext _ (λ a p n. value p reference *ℤ pos (among 0 held a n) +ℤ Σover held opens (λ b q m. value p q *ℤ pos (among b m a n)))
-    (λ a p n. front-and-today (λ b q m. value p q *ℤ pos (among b m a n)) reference held opens) 0 closes
-    ∙ Σover-add (λ a p n. value p reference *ℤ pos (among 0 held a n)) (λ a p n. Σover held opens (λ b q m. value p q *ℤ pos (among b m a n))) 0 closes
+    Σover-ext _ (λ a p n. value p reference *ℤ pos (overlap 0 held a n) +ℤ Σover held opens (λ b q m. value p q *ℤ pos (overlap b m a n)))
+    (λ a p n. front-and-today (λ b q m. value p q *ℤ pos (overlap b m a n)) reference held opens) 0 closes
+    ∙ Σover-add (λ a p n. value p reference *ℤ pos (overlap 0 held a n)) (λ a p n. Σover held opens (λ b q m. value p q *ℤ pos (overlap b m a n))) 0 closes
 
 -- a side's lots left, at a price
 left-split : (value : ℕ → ℤ) (reference held gone : ℕ) (opens : List Batch) →
     worth value (otherLots gone (record { price = reference; lots = held } ∷ opens))
-    ≡ value reference *ℤ pos (held - among 0 held 0 gone) +ℤ Σover held opens (λ b q m. value q *ℤ pos (m - among b m 0 gone))
+    ≡ value reference *ℤ pos (held - overlap 0 held 0 gone) +ℤ Σover held opens (λ b q m. value q *ℤ pos (m - overlap b m 0 gone))
 left-split value reference held gone opens =
     let e : gone ≡ gone - 0 = omega arith in
     ap (λ (k : ℕ). worth value (otherLots k (record { price = reference; lots = held } ∷ opens))) e
-    ∙ other-among value gone 0 (record { price = reference; lots = held } ∷ opens)
-    ∙ front-and-today (λ b q m. value q *ℤ pos (m - among b m 0 gone)) reference held opens
+    ∙ other-overlap value gone 0 (record { price = reference; lots = held } ∷ opens)
+    ∙ front-and-today (λ b q m. value q *ℤ pos (m - overlap b m 0 gone)) reference held opens
 
 -- four parts, by side and by age
 long-first : (hl tl hs ts : ℤ) → pos 0 +ℤ (hl +ℤ tl +ℤ (hs +ℤ ts)) ≡ hl +ℤ hs +ℤ (tl +ℤ ts)
@@ -343,16 +353,16 @@ short-first l h hl tl hs ts e f =
 -- a side: its closes, its lots left
 module _ (reference held : ℕ) (closes opens : List Batch) where
   oldClosed : (ℕ → ℕ → ℤ) → ℤ
-  oldClosed value = Σover 0 closes (λ a p n. value p reference *ℤ pos (among 0 held a n))
+  oldClosed value = Σover 0 closes (λ a p n. value p reference *ℤ pos (overlap 0 held a n))
 
   newClosed : (ℕ → ℕ → ℤ) → ℤ
-  newClosed value = Σover 0 closes (λ a p n. Σover held opens (λ b q m. value p q *ℤ pos (among b m a n)))
+  newClosed value = Σover 0 closes (λ a p n. Σover held opens (λ b q m. value p q *ℤ pos (overlap b m a n)))
 
   oldLeft : (ℕ → ℤ) → ℤ
-  oldLeft value = value reference *ℤ pos (held - among 0 held 0 (lotsIn closes))
+  oldLeft value = value reference *ℤ pos (held - overlap 0 held 0 (lotsIn closes))
 
   newLeft : (ℕ → ℤ) → ℤ
-  newLeft value = Σover held opens (λ b q m. value q *ℤ pos (m - among b m 0 (lotsIn closes)))
+  newLeft value = Σover held opens (λ b q m. value q *ℤ pos (m - overlap b m 0 (lotsIn closes)))
 
 module _ (reference s long short : ℕ) (ls : List Leg) (c : AllCovered (dayStart reference long short) ls) where
   day-closing :
@@ -419,4 +429,8 @@ module _ (x : Exchange) (w : wellFormedContents x ≡ true) (a : ℕ) where
   -- CLOSING PROFIT AND HOLDING PROFIT ARE ARTICLE 32'S, two sums each
   pub by-article-32 : ByArticle32 x a
   unfolding closingProfit holdingProfit
-  by-article-32 = search (over-contracts, contract-closing, contract-holding) depth 12
+  by-article-32 =
+      record {
+        closing = over-contracts (λ c. dayOf x a c .closing) closedHistory closedToday contract-closing;
+        holding = over-contracts (λ c. holdingGain (settlementPrice x c) (dayOf x a c)) heldHistory heldToday contract-holding;
+      }

@@ -1,23 +1,28 @@
 -- Two lists of commands, the second from what the first leaves: their claims give that of the list joined. What the first list leaves is
 -- a loaded state, whose cash is that of the start with what was paid and traded since. Assumes nothing.
+use mathlib.Core.Bool.{true}
+use mathlib.Core.List.{List, [], _∷_, _++_, append-assoc, append-nil}
+use mathlib.Core.Path.{_≡_, refl, sym, ap, ap₂, _∙_}
+use Prim.Native.Nat.{ℕ, _+_, _*_, _<_}
+use native.Mathlib.Omega.{arith}
 use lib.IntN.{ℤ, pos, _+ℤ_, _-ℤ_, _*ℤ_, +ℤ-assoc}
-use Rattle.laws.specs.Logic.{true, List, [], _∷_, _++_, append-nil, append-assoc, _≡_, refl, sym, ap, ap₂, _∙_}
-use Rattle.laws.specs.Numbers.{ℕ, _+_, _<_, arith, length}
+use lib.ListN.{length}
+use Rattle.laws.specs.Choice.{pick}
 use Rattle.laws.specs.Ring.{split, d-eq, ring}
 use Rattle.laws.specs.Sums.{sumOf, sumOf-append, sumTo, sumTo-ext, sumTo-add}
-use Rattle.rules.specs.Condition3.{run, isAccepted, movesOf, inTo, outOf, paidIn, paidOut, made, tradesMade, netHolding, balanceIn, accountsOf, contractsOf, netIn, multiplierIn, loaded, loadedWorth, Loaded, worth, EndsSettled, Condition3}
+use Rattle.rules.specs.Condition3.{run, isAccepted, movesOf, inTo, outOf, paidIn, paidOut, made, tradesMade, isBuyer, isSeller, sales, costs, netHolding, balanceIn, accountsOf, contractsOf, netIn, multiplierIn, loaded, loadedWorth, Loaded, soldFor, costOf, atPrices, settledAt, EndsSettled, Condition3}
 use Rattle.rules.specs.Exchange.{Exchange, accountAt, holdingAt}
 use Rattle.rules.specs.Kinds.{Move, step}
 use Rattle.rules.specs.Memory.{Memory, exchangeOf, Declared, wellFormedMemory, respond}
 use Rattle.rules.specs.Settlement.{settlementPrice}
-use Rattle.rules.specs.declared.{Command.Command, Trade.Trade}
+use Rattle.rules.specs.declared.Command.{Command}
 use Rattle.rules.specs.declared.Command.the-variants.{Settle}
+use Rattle.rules.specs.declared.Trade.{Trade}
 use Rattle.accounting.specs.Books.{booksOf, Reached, cash, brought}
-use Rattle.accounting.specs.Money.{proceeds}
 use Rattle.accounting.proofs.BooksLaws.{reached-cash, reached-multiplier}
-use Rattle.accounting.proofs.Condition3.{loaded-cash}
+use Rattle.accounting.proofs.Condition3.{brought-is, loaded-cash}
 use Rattle.accounting.proofs.Runs.{Sound, paid-is, made-is, run-append, end-shape, end-sound, end-reached}
-use Rattle.accounting.proofs.Trades.{proceeds-append, netHolding-append}
+use Rattle.accounting.proofs.Trades.{netHolding-append}
 
 -- ---- a list in two parts
 
@@ -66,16 +71,18 @@ last-of (x ∷ as′) b bs (y ∷ before) c e =
 
 -- ---- integers
 
-added : (k q : ℕ) (s t n u v : ℤ) → pos k *ℤ s +ℤ pos k *ℤ (t +ℤ pos q *ℤ (n +ℤ u +ℤ v)) ≡ pos k *ℤ (s +ℤ t +ℤ pos q *ℤ (n +ℤ (u +ℤ v)))
-added k q s t n u v = rw (split s, split t, split n, split u, split v) (simp ring (d-eq _ _ _ _ (omega arith)))
+added : (k i j : ℕ) → pos k *ℤ pos i +ℤ pos k *ℤ pos j ≡ pos k *ℤ pos (i + j)
+added k i j = simp ring (d-eq _ _ _ _ (omega arith))
 
 totals-joined : (b x u y v : ℤ) → b +ℤ x -ℤ u +ℤ y -ℤ v ≡ b +ℤ (x +ℤ y) -ℤ (u +ℤ v)
 totals-joined b x u y v = rw (split b, split x, split u, split y, split v) (simp ring (d-eq _ _ _ _ (omega arith)))
 
-balance-joined : (b t w : ℤ) (i o j u : ℕ) → b +ℤ (pos i -ℤ pos o +ℤ t) +ℤ pos j -ℤ pos u +ℤ w ≡ b +ℤ pos (i + j) -ℤ pos (o + u) +ℤ (t +ℤ w)
-balance-joined b t w i o j u = rw (split b, split t, split w) (simp ring (d-eq _ _ _ _ (omega arith)))
+balance-joined : (b s c t d w : ℤ) (i o j u : ℕ) →
+    b +ℤ (pos i -ℤ pos o +ℤ (s -ℤ c)) +ℤ pos j -ℤ pos u +ℤ t -ℤ d +ℤ w ≡ b +ℤ pos (i + j) -ℤ pos (o + u) +ℤ (s +ℤ t) -ℤ (c +ℤ d) +ℤ w
+balance-joined b s c t d w i o j u = rw (split b, split s, split c, split t, split d, split w) (simp ring (d-eq _ _ _ _ (omega arith)))
 
-sum-parts : (n : ℕ) (f g h : ℕ → ℕ) → ((a : ℕ) → f a ≡ g a + h a) → sumTo n (λ a. pos (f a)) ≡ sumTo n (λ a. pos (g a)) +ℤ sumTo n (λ a. pos (h a))
+sum-parts : (n : ℕ) (f g h : ℕ → ℕ) → ((a : ℕ) → f a ≡ g a + h a) →
+    sumTo n (λ a. pos (f a)) ≡ sumTo n (λ a. pos (g a)) +ℤ sumTo n (λ a. pos (h a))
 sum-parts n f g h e = sumTo-ext n _ (λ a. pos (g a) +ℤ pos (h a)) (λ a l. ap pos (e a)) ∙ sumTo-add n (λ a. pos (g a)) (λ a. pos (h a))
 
 -- ---- a balance and a net holding of an exchange
@@ -101,12 +108,18 @@ module _
   same-contracts : contractsOf (run m as′) ≡ contractsOf m
   same-contracts = end-shape kept read-back m as′ d .listings
 
+  same-multiplier : (c : ℕ) → c < contractsOf m → multiplierIn (run m as′) c ≡ multiplierIn m c
+  unfolding booksOf
+  same-multiplier c k = reached-multiplier (accountsOf m) (contractsOf m) reached c k
+
   -- the money that the second list starts from
-  carried-money : (a : ℕ) → a < accountsOf m → balanceIn (run m as′) a -ℤ loadedWorth (run m as′) a
+  carried-money : (a : ℕ) → a < accountsOf m →
+      balanceIn (run m as′) a -ℤ loadedWorth (run m as′) a
       ≡ balanceIn m a -ℤ loadedWorth m a +ℤ (pos (paidIn a m as′) -ℤ pos (paidOut a m as′) +ℤ brought (contractsOf m) (booksOf (exchangeOf m)) a (tradesMade m as′))
   carried-money a l =
       sym (loaded-cash (run m as′) o₁ (end-sound kept read-back m as′ d s) a (rw same-accounts l))
-      ∙ ap (λ (n : ℕ). cash n (booksOf (exchangeOf (run m as′))) a) same-contracts ∙ reached-cash (accountsOf m) (contractsOf m) reached a l
+      ∙ ap (λ (n : ℕ). cash n (booksOf (exchangeOf (run m as′))) a) same-contracts
+      ∙ reached-cash (accountsOf m) (contractsOf m) reached a l
       ∙ ap₂ (λ (u v : ℤ). u +ℤ v) (loaded-cash m o s a l)
       (ap₂ (λ (u : ℤ) (ts : List Trade). u +ℤ brought (contractsOf m) (booksOf (exchangeOf m)) a ts) (paid-is a m as′) (made-is m as′))
 
@@ -134,7 +147,8 @@ module _
     together-joined =
         rw same-accounts at (two .together)
         ∙ ap (λ (z : ℤ). z +ℤ sumTo (accountsOf m) (λ a. pos (paidIn a between (b ∷ bs))) -ℤ sumTo (accountsOf m) (λ a. pos (paidOut a between (b ∷ bs))))
-        (one .together) ∙ totals-joined (sumTo (accountsOf m) (balanceIn m))
+        (one .together)
+        ∙ totals-joined (sumTo (accountsOf m) (balanceIn m))
         (sumTo (accountsOf m) (λ a. pos (paidIn a m as′))) (sumTo (accountsOf m) (λ a. pos (paidOut a m as′)))
         (sumTo (accountsOf m) (λ a. pos (paidIn a between (b ∷ bs)))) (sumTo (accountsOf m) (λ a. pos (paidOut a between (b ∷ bs))))
         ∙ sym (ap₂ (λ (u v : ℤ). sumTo (accountsOf m) (balanceIn m) +ℤ u -ℤ v)
@@ -145,44 +159,69 @@ module _
     unfolding between cs ts us
     net-traded a c = ap (netHolding a c) (trades-append m as′ (b ∷ bs)) ∙ netHolding-append a c ts us
 
-    proceeds-traded : (a c : ℕ) → proceeds a c (tradesMade m cs) ≡ proceeds a c ts +ℤ proceeds a c us
-    unfolding between cs ts us
-    proceeds-traded a c = ap (proceeds a c) (trades-append m as′ (b ∷ bs)) ∙ proceeds-append a c ts us
+    sales-traded : (a c : ℕ) → sales a c (tradesMade m cs) ≡ sales a c ts + sales a c us
+    unfolding between cs ts us sales
+    sales-traded a c = ap (sales a c) (trades-append m as′ (b ∷ bs)) ∙ sumOf-append (λ t. pick (isSeller a c t) (t .price * t .lots) 0) ts us
+
+    costs-traded : (a c : ℕ) → costs a c (tradesMade m cs) ≡ costs a c ts + costs a c us
+    unfolding between cs ts us costs
+    costs-traded a c = ap (costs a c) (trades-append m as′ (b ∷ bs)) ∙ sumOf-append (λ t. pick (isBuyer a c t) (t .price * t .lots) 0) ts us
 
     net-joined : (a c : ℕ) → a < accountsOf m → c < contractsOf m → netIn m′ a c ≡ netIn m a c +ℤ netHolding a c (tradesMade m cs)
     unfolding between ts us
     net-joined a c l k =
-        two .net a c (rw same-accounts l) (rw same-contracts k) ∙ ap (λ (z : ℤ). z +ℤ netHolding a c us) (one .net a c l k)
-        ∙ +ℤ-assoc (netIn m a c) (netHolding a c ts) (netHolding a c us) ∙ ap (λ (z : ℤ). netIn m a c +ℤ z) (sym (net-traded a c))
+        two .net a c (rw same-accounts l) (rw same-contracts k)
+        ∙ ap (λ (z : ℤ). z +ℤ netHolding a c us) (one .net a c l k)
+        ∙ +ℤ-assoc (netIn m a c) (netHolding a c ts) (netHolding a c us)
+        ∙ ap (λ (z : ℤ). netIn m a c +ℤ z) (sym (net-traded a c))
 
-    -- what the first list's trades brought in, and the worth of the second list's, are the worth of all the trades
-    worth-joined : (last : Exchange) (a : ℕ) → a < accountsOf m →
-        brought (contractsOf m) (booksOf (exchangeOf m)) a ts +ℤ worth between last a us (λ c. netIn between a c +ℤ netHolding a c us)
-        ≡ worth m last a (tradesMade m cs) (λ c. netIn m a c +ℤ netHolding a c (tradesMade m cs))
-    unfolding worth brought booksOf between ts proceeds
-    worth-joined last a l =
-        ap (λ (n : ℕ). sumTo (contractsOf m) first +ℤ sumTo n second) same-contracts ∙ sym (sumTo-add (contractsOf m) first second)
-        ∙ sumTo-ext (contractsOf m) _ _ contract-joined
+    -- values of the trades of each list, times the multiplier, are those of all the trades
+    values-joined : (first second whole : ℕ → ℕ) → ((c : ℕ) → whole c ≡ first c + second c) →
+        sumTo (contractsOf m) (λ c. pos (multiplierIn m c) *ℤ pos (first c))
+        +ℤ sumTo (contractsOf between) (λ c. pos (multiplierIn between c) *ℤ pos (second c))
+        ≡ sumTo (contractsOf m) (λ c. pos (multiplierIn m c) *ℤ pos (whole c))
+    unfolding between
+    values-joined first second whole e =
+        ap (λ (n : ℕ). sumTo (contractsOf m) one-value +ℤ sumTo n other-value) same-contracts
+        ∙ sym (sumTo-add (contractsOf m) one-value other-value)
+        ∙ sumTo-ext (contractsOf m) _ _ (λ c k. rw (same-multiplier c k, e c) (added (multiplierIn m c) (first c) (second c)))
       where
-        first : ℕ → ℤ
-        first c = pos (multiplierIn m c) *ℤ proceeds a c ts
+        one-value : ℕ → ℤ
+        one-value c = pos (multiplierIn m c) *ℤ pos (first c)
 
-        second : ℕ → ℤ
-        second c = pos (multiplierIn (run m as′) c) *ℤ (proceeds a c us +ℤ pos (settlementPrice last c) *ℤ (netIn (run m as′) a c +ℤ netHolding a c us))
+        other-value : ℕ → ℤ
+        other-value c = pos (multiplierIn (run m as′) c) *ℤ pos (second c)
 
-        contract-joined : (c : ℕ) → c < contractsOf m → first c +ℤ second c
-            ≡ pos (multiplierIn m c) *ℤ (proceeds a c (tradesMade m cs) +ℤ pos (settlementPrice last c) *ℤ (netIn m a c +ℤ netHolding a c (tradesMade m cs)))
-        contract-joined c k =
-            rw (reached-multiplier (accountsOf m) (contractsOf m) reached c k, one .net a c l k, net-traded a c, proceeds-traded a c)
-            (added (multiplierIn m c) (settlementPrice last c) (proceeds a c ts) (proceeds a c us) (netIn m a c) (netHolding a c ts) (netHolding a c us))
+    sold-joined : (a : ℕ) → soldFor m a ts +ℤ soldFor between a us ≡ soldFor m a (tradesMade m cs)
+    unfolding soldFor
+    sold-joined a = values-joined (λ c. sales a c ts) (λ c. sales a c us) (λ c. sales a c (tradesMade m cs)) (sales-traded a)
 
-    -- the second claim's sum, from the money that it starts from
+    cost-joined : (a : ℕ) → costOf m a ts +ℤ costOf between a us ≡ costOf m a (tradesMade m cs)
+    unfolding costOf
+    cost-joined a = values-joined (λ c. costs a c ts) (λ c. costs a c us) (λ c. costs a c (tradesMade m cs)) (costs-traded a)
+
+    -- the net holdings after the second list are those after the list joined
+    held-joined : (price : ℕ → ℕ) (a : ℕ) → a < accountsOf m →
+        atPrices between price (λ c. netIn between a c +ℤ netHolding a c us) ≡ atPrices m price (λ c. netIn m a c +ℤ netHolding a c (tradesMade m cs))
+    unfolding atPrices between ts us
+    held-joined price a l =
+        ap (λ (n : ℕ). sumTo n (λ c. pos (multiplierIn (run m as′) c) *ℤ (pos (price c) *ℤ (netIn (run m as′) a c +ℤ netHolding a c us)))) same-contracts
+        ∙ sumTo-ext (contractsOf m) _ _
+        (λ c k. ap₂ (λ (n : ℕ) (z : ℤ). pos n *ℤ (pos (price c) *ℤ z)) (same-multiplier c k)
+        (ap (λ (z : ℤ). z +ℤ netHolding a c us) (one .net a c l k)
+        ∙ +ℤ-assoc (netIn m a c) (netHolding a c ts) (netHolding a c us)
+        ∙ ap (λ (z : ℤ). netIn m a c +ℤ z) (sym (net-traded a c))))
+
+    -- the second claim's sum, from the money that it starts from and with its holdings at the prices
     carriedOn : ℕ → ℤ → ℤ → ℤ
-    carriedOn a z w = z +ℤ pos (paidIn a between (b ∷ bs)) -ℤ pos (paidOut a between (b ∷ bs)) +ℤ w
+    carriedOn a z w =
+        z +ℤ pos (paidIn a between (b ∷ bs)) -ℤ pos (paidOut a between (b ∷ bs)) +ℤ soldFor between a us -ℤ costOf between a us +ℤ w
 
-    each-joined : (before : List Command) → EndsSettled m cs before → (a : ℕ) → a < accountsOf m → balanceIn m′ a
-        ≡ (((balanceIn m a -ℤ loadedWorth m a) +ℤ pos (paidIn a m cs)) -ℤ pos (paidOut a m cs))
-        +ℤ worth m (exchangeOf (run m before)) a (tradesMade m cs) (λ c. netIn m a c +ℤ netHolding a c (tradesMade m cs))
+    each-joined : (before : List Command) → EndsSettled m cs before → (a : ℕ) → a < accountsOf m →
+        balanceIn m′ a
+        ≡ balanceIn m a -ℤ loadedWorth m a +ℤ pos (paidIn a m cs) -ℤ pos (paidOut a m cs)
+        +ℤ soldFor m a (tradesMade m cs) -ℤ costOf m a (tradesMade m cs)
+        +ℤ atPrices m (settledAt m before) (λ c. netIn m a c +ℤ netHolding a c (tradesMade m cs))
     unfolding between cs ts us carriedOn
     each-joined before f a l =
         let p = last-of as′ b bs before Settle (f .ends) in
@@ -191,15 +230,18 @@ module _
           ends = p .back;
           accepted = ap (λ (k : Memory). isAccepted k Settle) (sym t) ∙ f .accepted;
         } in
-        let w : ℤ = worth between (exchangeOf (run m before)) a us (λ c. netIn between a c +ℤ netHolding a c us) in
+        let start : ℤ = balanceIn m a -ℤ loadedWorth m a in
+        let w : ℤ = atPrices m (settledAt m before) (λ c. netIn m a c +ℤ netHolding a c (tradesMade m cs)) in
         two .each (p .rest) g a (rw same-accounts l)
-        ∙ ap (λ (k : Memory). carriedOn a (balanceIn between a -ℤ loadedWorth between a) (worth between (exchangeOf k) a us (λ c. netIn between a c +ℤ netHolding a c us))) (sym t)
-        ∙ ap (λ (z : ℤ). carriedOn a z w) (carried-money a l)
-        ∙ balance-joined (balanceIn m a -ℤ loadedWorth m a) (brought (contractsOf m) (booksOf (exchangeOf m)) a ts) w
+        ∙ ap (λ (k : Memory). carriedOn a (balanceIn between a -ℤ loadedWorth between a) (atPrices between (settlementPrice (exchangeOf k)) (λ c. netIn between a c +ℤ netHolding a c us))) (sym t)
+        ∙ ap₂ (λ (y z : ℤ). carriedOn a y z)
+        (carried-money a l ∙ ap (λ (z : ℤ). start +ℤ (pos (paidIn a m as′) -ℤ pos (paidOut a m as′) +ℤ z)) (brought-is m a ts))
+        (held-joined (settledAt m before) a l)
+        ∙ balance-joined start (soldFor m a ts) (costOf m a ts) (soldFor between a us) (costOf between a us) w
         (paidIn a m as′) (paidOut a m as′) (paidIn a between (b ∷ bs)) (paidOut a between (b ∷ bs))
-        ∙ ap₂ (λ (i : ℕ) (o : ℕ). balanceIn m a -ℤ loadedWorth m a +ℤ pos i -ℤ pos o +ℤ (brought (contractsOf m) (booksOf (exchangeOf m)) a ts +ℤ w))
+        ∙ ap₂ (λ (i o : ℕ). start +ℤ pos i -ℤ pos o +ℤ (soldFor m a ts +ℤ soldFor between a us) -ℤ (costOf m a ts +ℤ costOf between a us) +ℤ w)
         (sym (paidIn-append m as′ (b ∷ bs) a)) (sym (paidOut-append m as′ (b ∷ bs) a))
-        ∙ ap (λ (z : ℤ). balanceIn m a -ℤ loadedWorth m a +ℤ pos (paidIn a m cs) -ℤ pos (paidOut a m cs) +ℤ z) (worth-joined (exchangeOf (run m before)) a l)
+        ∙ ap₂ (λ (y z : ℤ). start +ℤ pos (paidIn a m cs) -ℤ pos (paidOut a m cs) +ℤ y -ℤ z +ℤ w) (sold-joined a) (cost-joined a)
 
     joined-more : Condition3 (loaded m) m (as′ ++ (b ∷ bs)) m′
     unfolding cs

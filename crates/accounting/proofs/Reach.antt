@@ -6,7 +6,7 @@ use Rattle.laws.specs.Numbers.{ℕ, _+_, _-_, _*_, _≤_, arith}
 use Rattle.laws.specs.Bound.{Within, within-le, within-zero, within-add, within-sub, within-diff, within-times}
 use Rattle.laws.specs.Sums.{sumOf}
 use Rattle.rules.specs.Article32.{lotsIn}
-use Rattle.rules.specs.Settlement.{Leg, leg, Batch, Day, dayStart, gain, firstLots, otherLots, opened, afterDayLeg, afterLegs, holdingGain}
+use Rattle.rules.specs.Settlement.{Leg, leg, Batch, Day, dayStart, gain, firstLots, otherLots, withBatch, afterDayLeg, afterLegs, holdingGain}
 use Rattle.accounting.specs.DayLegs.{Covered, AllCovered}
 use Rattle.accounting.proofs.DayProfit.{lots-opened, lots-first, lots-other}
 
@@ -31,7 +31,7 @@ unfolding otherLots PricedTo
 other-priced M n [] q = tt
 other-priced M n (b ∷ bs) q = (q .0, other-priced M (n - b .lots) bs (q .1))
 
-opened-priced : (M p n : ℕ) (bs : List Batch) → PricedTo M bs → p ≤ M → PricedTo M (opened bs p n)
+opened-priced : (M p n : ℕ) (bs : List Batch) → PricedTo M bs → p ≤ M → PricedTo M (withBatch bs p n)
 unfolding PricedTo
 opened-priced M p n [] q h = (h, tt)
 opened-priced M p n (b ∷ bs) q h = (q .0, opened-priced M p n bs (q .1) h)

@@ -6,9 +6,9 @@ use Rattle.rules.specs.Memory.{putQueue, queueIn}
 use Rattle.rules.specs.declared.{Account.Account, Order.Order}
 use Rattle.rules.proofs.Codecs.{length-queue, put-queue}
 use Rattle.book.proofs.Trading.{all-booked}
-use Rattle.auction.specs.Matched.{FilledIs, MatchReady, MatchedIs, levelMatch}
+use Rattle.auction.specs.Matched.{FillsIs, MatchReady, MatchedIs, levelMatch}
 use Rattle.auction.specs.Price.{chosenLevel}
-use Rattle.auction.specs.declared.matched.Filled.{Filled}
+use Rattle.auction.specs.declared.matched.Fills.{Fills}
 use Rattle.auction.specs.declared.price.Level.{Level}
 
 module _ (c : ℕ) (level : Level) (buys sells : List Order) where
@@ -62,7 +62,7 @@ module _ (level : Level) {c : ℕ} {held : List Account} {buys : List ℕ} {boug
     ready-at = rw (level-some c level bids asks some) at ready
 
     -- the filled orders are taken out of both queues; k is the contract's place as the code widens it
-    module _ {last : ℕ} {f : Filled} {buys₁ sells₁ area′ : List ℕ} (fd : FilledIs (matchAt c (level .price) bids asks) c last held buys bought sells sold area before f buys₁ sells₁ area′) {k : ℕ} (ek : k ≡ c) where
+    module _ {last : ℕ} {f : Fills} {buys₁ sells₁ area′ : List ℕ} (fd : FillsIs (matchAt c (level .price) bids asks) c last held buys bought sells sold area before f buys₁ sells₁ area′) {k : ℕ} (ek : k ≡ c) where
       pub queues-left : {buys′ sells′ : List ℕ} → buys′ ≡ putQueue buys₁ k bought (drop (f .bought) (queueIn buys₁ k bought)) → sells′ ≡ putQueue sells₁ k sold (drop (f .sold) (queueIn sells₁ k sold))
           → MatchedIs (levelMatch c level bids asks) c last held buys bought sells sold area before
           (record { accounts = f .accounts; traded = f .traded; last = f .last; bought = bought - f .bought; sold = sold - f .sold; made = f .made }) buys′ sells′ area′

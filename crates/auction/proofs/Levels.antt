@@ -8,7 +8,7 @@ use Rattle.rules.specs.declared.Order.{Order}
 use Rattle.rules.proofs.AuctionTaken.{reaching-nil, reaching-met, reaching-unmet}
 use Rattle.rules.proofs.Queue.{lots-append}
 use Rattle.book.proofs.Queues.{next-order, no-more}
-use Rattle.auction.specs.Price.{bestLevel, chosenLevel, firstOf, firstPrice, levelAt, preferred}
+use Rattle.auction.specs.Price.{bestLevel, chosenLevel, firstPrice, headPrice, levelAt, preferred}
 use Rattle.auction.specs.declared.price.Level.{Level}
 
 -- ---- the lots that reach a price
@@ -105,8 +105,8 @@ module _ (last : ℕ) (buys sells : List Order) where
       cases false = refl
 
 -- the first price of all is as good as itself
-first-best : (f : ℕ → ℕ → Bool) (ps : List ℕ) → bestFrom f (firstOf ps) ps ≡ bestOf f ps
-unfolding bestFrom bestOf firstOf
+first-best : (f : ℕ → ℕ → Bool) (ps : List ℕ) → bestFrom f (headPrice ps) ps ≡ bestOf f ps
+unfolding bestFrom bestOf headPrice
 first-best f [] = refl
 first-best f (p ∷ ps) = rw (pick-same (f p p) p)
 
@@ -119,16 +119,16 @@ best-append f first (p ∷ ps) qs = best-append f (pick (f p first) p first) ps 
 
 module _ (buys : List ℕ) (bought : ℕ) (sells : List ℕ) (sold c : ℕ) where
   pub first-buy : {o : Order} → (bought ≡ 0 → ⊥) → o ≡ orderFrom (drop (firstWord c 0) buys) → o .price ≡ firstPrice (queueIn buys c bought) (queueIn sells c sold)
-  unfolding firstOf prices
+  unfolding headPrice prices
   first-buy {o} some e = rw (next-order buys c bought 0 o (omega arith) e)
 
   module _ (none : bought ≡ 0) where
     pub first-sell : {o : Order} → (sold ≡ 0 → ⊥) → o ≡ orderFrom (drop (firstWord c 0) sells) → o .price ≡ firstPrice (queueIn buys c bought) (queueIn sells c sold)
-    unfolding firstOf prices
+    unfolding headPrice prices
     first-sell {o} some e = rw (no-more buys c bought 0 (omega arith), next-order sells c sold 0 o (omega arith) e)
 
     pub first-none : sold ≡ 0 → 0 ≡ firstPrice (queueIn buys c bought) (queueIn sells c sold)
-    unfolding firstOf prices
+    unfolding headPrice prices
     first-none e = rw (no-more buys c bought 0 (omega arith), no-more sells c sold 0 (omega arith))
 
 -- ---- the loop over one queue's prices: the best so far, with those from place i on, gives the answer

@@ -18,7 +18,7 @@ use Rattle.rules.proofs.Codecs.{trade-codec}
 use Rattle.holdings.proofs.Bookings.{held-more, held-trade}
 use Rattle.book.proofs.Queues.{next-order, no-more}
 use Rattle.book.proofs.Trading.{Booked, booked, booked-trade, all-booked, still-made}
-use Rattle.auction.specs.Matched.{FilledIs, MatchReady, MatchParties, fits}
+use Rattle.auction.specs.Matched.{FillsIs, MatchReady, MatchParties, fits}
 use Rattle.auction.proofs.Filling.{Side, Stands, left-in, side-begins, side-filled, left-filled, stands-filled, side-part, left-part, stands-part}
 
 -- ---- why a match stops
@@ -125,7 +125,7 @@ module _
 
   -- nothing is to come: what stands is the answer
   finished : matchAt c price (drop i bids) (drop j asks) ≡ unmatched (drop i bids) (drop j asks)
-      → FilledIs all c last held₀ buys₀ bought sells₀ sold area₀ before (record { accounts = held; traded = done; last = latest; bought = i; sold = j; made = made }) buys sells area
+      → FillsIs all c last held₀ buys₀ bought sells₀ sold area₀ before (record { accounts = held; traded = done; last = latest; bought = i; sold = j; made = made }) buys sells area
   unfolding finish
   finished e =
       let o : finish done made latest held area (unmatched (drop i bids) (drop j asks)) ≡ finish 0 before last held₀ area₀ all = ap (finish done made latest held area) (sym e) ∙ g .answer in
@@ -139,7 +139,7 @@ module _
   module _ {contract : ℕ} (ec : c ≡ contract) where
     abbrev Stopped : Type 0
     Stopped =
-        FilledIs (matchAt contract price (queueIn buys₀ contract bought) (queueIn sells₀ contract sold)) contract last held₀ buys₀ bought sells₀ sold area₀ before
+        FillsIs (matchAt contract price (queueIn buys₀ contract bought) (queueIn sells₀ contract sold)) contract last held₀ buys₀ bought sells₀ sold area₀ before
         (record { accounts = held; traded = done; last = latest; bought = i; sold = j; made = made }) buys sells area
 
     pub stopped-buys : i ≡ bought → Stopped

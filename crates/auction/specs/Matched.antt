@@ -16,7 +16,7 @@ use Rattle.rules.specs.declared.Trade.{Trade}
 use Rattle.holdings.specs.Bounds.{HeldWithin, heldMost}
 use Rattle.book.specs.Trading.{AllBooked}
 use Rattle.auction.specs.Price.{QueuesRoom}
-use Rattle.auction.specs.declared.matched.Filled.{Filled}
+use Rattle.auction.specs.declared.matched.Fills.{Fills}
 use Rattle.auction.specs.declared.matched.Match.{Match}
 use Rattle.auction.specs.declared.price.Level.{Level}
 
@@ -55,9 +55,9 @@ pub record LeftIn (trades : List Trade) (queue : List Order) (area : List ℕ) (
   pub dropped : putQueue area′ c n (drop i (queueIn area′ c n)) ≡ putQueue area c n queue
 
 -- the answer, and the three areas: what the trades leave, and the rest of each queue behind its filled orders
-pub record FilledIs
+pub record FillsIs
     (m : Matched) (c last : ℕ) (held : List Account) (buys : List ℕ) (bought₀ : ℕ) (sells : List ℕ) (sold₀ : ℕ) (area : List ℕ) (before : ℕ)
-    (r : Filled) (buys′ sells′ area′ : List ℕ) : Type 0 where
+    (r : Fills) (buys′ sells′ area′ : List ℕ) : Type 0 where
   pub booked : AllBooked (m .trades) before last held area (r .traded) (r .made) (r .last) (r .accounts) area′
   pub bought : LeftIn (m .trades) (m .buys) buys c bought₀ (r .bought) buys′
   pub sold : LeftIn (m .trades) (m .sells) sells c sold₀ (r .sold) sells′

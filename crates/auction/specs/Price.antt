@@ -33,12 +33,12 @@ abbrev pub bestLevel : ℕ → List Order → List Order → ℕ → List Order 
 bestLevel last buys sells price queue = levelAt buys sells (bestFrom (better last buys sells) price (prices queue))
 
 -- the first of the resting prices, 0 where there is none
-unfoldable pub firstOf : List ℕ → ℕ
-firstOf [] = 0
-firstOf (p ∷ ps) = p
+unfoldable pub headPrice : List ℕ → ℕ
+headPrice [] = 0
+headPrice (p ∷ ps) = p
 
 abbrev pub firstPrice : List Order → List Order → ℕ
-firstPrice buys sells = firstOf (restingPrices buys sells)
+firstPrice buys sells = headPrice (restingPrices buys sells)
 
 abbrev pub chosenLevel : ℕ → List Order → List Order → Level
 chosenLevel last buys sells = levelAt buys sells (chosenPrice last buys sells)

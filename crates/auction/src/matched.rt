@@ -7,7 +7,7 @@ ghost use lib.ListN.{length};
 ghost use Rattle.rules.specs.Auction as rule;
 ghost use Rattle.rules.specs.Memory.{queueIn};
 ghost use Rattle.auction.specs.Price.{QueuesRoom};
-ghost use Rattle.auction.specs.Matched.{FilledIs, MatchReady, MatchedIs, levelMatch};
+ghost use Rattle.auction.specs.Matched.{FillsIs, MatchReady, MatchedIs, levelMatch};
 use crate::price;
 use crate::price::Level;
 use book::queue;
@@ -94,7 +94,7 @@ fn count_trades<'a>(
 
 // The accounts; lots traded, the last price, buys and sells filled, trades of the day. The array stands first, so that nothing
 // pads it and fewer copies of it are made.
-pub struct Filled {
+pub struct Fills {
     pub accounts: [Account; rules::MAX_ACCOUNTS],
     pub traded: u32,
     pub last: u32,
@@ -115,9 +115,9 @@ pub fn match_at(
     price: u32,
     last: u32,
     accounts: [Account; rules::MAX_ACCOUNTS],
-) -> Filled
+) -> Fills
     requires { ⌜ MatchReady (rule.matchAt contract price (queueIn (now buys) contract bought) (queueIn (now sells) contract sold)) contract accounts (now buys) bought (now sells) sold (now area) before ⌝ }
-    ensures { λ r. ⌜ FilledIs (rule.matchAt contract price (queueIn (now (buys .entry)) contract bought) (queueIn (now (sells .entry)) contract sold)) contract last accounts (now (buys .entry)) bought (now (sells .entry)) sold (now (area .entry)) before r (now (buys .exit)) (now (sells .exit)) (now (area .exit)) ⌝ }
+    ensures { λ r. ⌜ FillsIs (rule.matchAt contract price (queueIn (now (buys .entry)) contract bought) (queueIn (now (sells .entry)) contract sold)) contract last accounts (now (buys .entry)) bought (now (sells .entry)) sold (now (area .entry)) before r (now (buys .exit)) (now (sells .exit)) (now (area .exit)) ⌝ }
 {
     let c = laws::wide(contract);
     let mut held = accounts;
@@ -159,7 +159,7 @@ pub fn match_at(
         }
         j += 1;
     };
-    Filled {
+    Fills {
         accounts: held,
         traded,
         last: latest,
@@ -187,7 +187,7 @@ pub fn trades_needed<'a>(
     count_trades(buys, bought, sells, sold, c, chosen.price)
 }
 
-// The accounts, first as in `Filled`; lots traded, the last price, buys and sells that stay, trades of the day.
+// The accounts, first as in `Fills`; lots traded, the last price, buys and sells that stay, trades of the day.
 pub struct Match {
     pub accounts: [Account; rules::MAX_ACCOUNTS],
     pub traded: u32,

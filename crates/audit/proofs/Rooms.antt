@@ -5,9 +5,9 @@ use Rattle.rules.specs.Bounds.{maxResting}
 use Rattle.rules.specs.Memory.{firstWord}
 use Rattle.rules.specs.declared.State.{State}
 use Rattle.invariants.proofs.MemoryRoom.{counts-ok}
-use Rattle.audit.specs.Parts.{Ready}
+use Rattle.audit.specs.Parts.{QueuesReady}
 
-module _ {s : State} {buys sells : List ℕ} (r : Ready s buys sells) {c : ℕ} (h : c < s .contractcount) where
+module _ {s : State} {buys sells : List ℕ} (r : QueuesReady s buys sells) {c : ℕ} (h : c < s .contractcount) where
   pub contract-in : c < 4
   contract-in = omega (arith, counts-ok s (r .counts) .contracts-high)
 

@@ -16,7 +16,7 @@ use Rattle.rules.proofs.Terms.{terms, terms-passed}
 use Rattle.invariants.proofs.Clauses.{holding-ok, trade-ok}
 use Rattle.invariants.proofs.MemoryRoom.{counts-ok, room-ok}
 use Rattle.replaying.specs.Parts.{Booked}
-use Rattle.audit.specs.Parts.{Ready, listing, listingInRange, replayed, tested}
+use Rattle.audit.specs.Parts.{QueuesReady, listing, listingInRange, replayed, tested}
 use Rattle.audit.proofs.Clauses.{listing-tested}
 use Rattle.audit.proofs.Walked.{walked}
 
@@ -164,7 +164,7 @@ whole-chain m = record { is = refl }
 -- ---- what a passed test gives the tests behind it
 
 module _ (s : State) (buys sells trades : List ℕ) (counts : countsInRange s ≡ true) (room : hasRoom (memory s buys sells trades) ≡ true) where
-  pub ready : Ready s buys sells
+  pub ready : QueuesReady s buys sells
   ready =
       let r = room-ok (memory s buys sells trades) room in
       record { counts = counts; buy-room = r .buys; sell-room = r .sells }

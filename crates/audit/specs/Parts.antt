@@ -26,7 +26,7 @@ unfoldable pub listingInRange : ℕ → ℕ → ℕ → Listing → Bool
 listingInRange accounts next nextstamp l = contractInRange (l .contract) && queuesSorted l && ordersInRange accounts next nextstamp l
 
 -- counts within their ranges, and room for the queues of the contracts in use: what reading a queue asks for
-pub record Ready (s : State) (buys sells : List ℕ) : Type 0 where
+pub record QueuesReady (s : State) (buys sells : List ℕ) : Type 0 where
   pub counts : countsInRange s ≡ true
   pub buy-room : queueStride * s .contractcount ≤ length buys
   pub sell-room : queueStride * s .contractcount ≤ length sells

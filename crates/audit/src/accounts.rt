@@ -9,7 +9,7 @@ ghost use Rattle.rules.specs.Bounds.{maxResting, maxAccounts, maxSettlements};
 ghost use Rattle.rules.specs.Exchange.{holdingAt, noOrder};
 ghost use Rattle.rules.specs.Memory.{queueIn, firstWord};
 ghost use Rattle.rules.specs.WellFormed.{heldInRange, holdingInRange, markInRange, balanceInRange};
-ghost use Rattle.audit.specs.Parts.{Ready, Summable, Summed, listing, listingInRange};
+ghost use Rattle.audit.specs.Parts.{QueuesReady, Summable, Summed, listing, listingInRange};
 use book::queue;
 use rules::Account;
 use rules::Holding;
@@ -76,7 +76,7 @@ fn holding_in_range(
 
 // What all accounts hold of the contract at a place.
 fn held_in_range(state: State, c: usize, buys: &[u32], sells: &[u32]) -> bool
-    requires { ⌜ Ready state (now buys) (now sells) × (c < state .contractcount) × (listingInRange (state .accountcount) (state .next) (state .nextstamp) (listing state (now buys) (now sells) c) ≡ true) ⌝ }
+    requires { ⌜ QueuesReady state (now buys) (now sells) × (c < state .contractcount) × (listingInRange (state .accountcount) (state .next) (state .nextstamp) (listing state (now buys) (now sells) c) ≡ true) ⌝ }
     ensures { λ r. ⌜ r ≡ all (λ a. holdingInRange (listing state (now (buys .entry)) (now (sells .entry)) c) a (holdingAt (state .accounts) a c)) (state .accountcount) ⌝ }
 {
     let contract = state.contracts[c];
@@ -108,7 +108,7 @@ fn held_in_range(state: State, c: usize, buys: &[u32], sells: &[u32]) -> bool
 }
 
 pub fn holdings_in_range(state: State, buys: &[u32], sells: &[u32]) -> bool
-    requires { ⌜ Ready state (now buys) (now sells) × (all (λ c. listingInRange (state .accountcount) (state .next) (state .nextstamp) (listing state (now buys) (now sells) c)) (state .contractcount) ≡ true) ⌝ }
+    requires { ⌜ QueuesReady state (now buys) (now sells) × (all (λ c. listingInRange (state .accountcount) (state .next) (state .nextstamp) (listing state (now buys) (now sells) c)) (state .contractcount) ≡ true) ⌝ }
     ensures { λ r. ⌜ r ≡ all (λ a. all (λ c. holdingInRange (listing state (now (buys .entry)) (now (sells .entry)) c) a (holdingAt (state .accounts) a c)) (state .contractcount)) (state .accountcount) ⌝ }
 {
     let contracts = state.contractcount;

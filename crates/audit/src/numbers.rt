@@ -12,7 +12,7 @@ ghost use Rattle.rules.specs.Bounds.{maxResting};
 ghost use Rattle.rules.specs.Memory.{queueIn, firstWord, orderStride, wordOf};
 ghost use Rattle.rules.specs.WellFormed as wellformed;
 ghost use Rattle.audit.specs.Listed.{Behind, maxListed};
-ghost use Rattle.audit.specs.Parts.{Ready, listing};
+ghost use Rattle.audit.specs.Parts.{QueuesReady, listing};
 use book::queue;
 use rules::State;
 
@@ -56,7 +56,7 @@ fn with_listing(
     sells: &[u32],
     word: usize,
 ) -> Listed
-    requires { ⌜ (before .count ≤ 2 * maxResting * c) × Ready state (now buys) (now sells) × (c < state .contractcount) × (word < orderStride) ⌝ }
+    requires { ⌜ (before .count ≤ 2 * maxResting * c) × QueuesReady state (now buys) (now sells) × (c < state .contractcount) × (word < orderStride) ⌝ }
     ensures { λ r. ⌜ Behind before (wellformed.listed (wordOf word) (listing state (now (buys .entry)) (now (sells .entry)) c .buys) ++ wellformed.listed (wordOf word) (listing state (now (buys .entry)) (now (sells .entry)) c .sells)) r ⌝ }
 {
     let buycount = state.buycounts[c];
@@ -66,7 +66,7 @@ fn with_listing(
 }
 
 fn all_listed(state: State, buys: &[u32], sells: &[u32], word: usize) -> Listed
-    requires { ⌜ Ready state (now buys) (now sells) × (word < orderStride) ⌝ }
+    requires { ⌜ QueuesReady state (now buys) (now sells) × (word < orderStride) ⌝ }
     ensures { λ r. ⌜ (r .count ≤ maxListed) × (take (r .count) (r .list) ≡ wellformed.allListed (wordOf word) (tabulate (state .contractcount) (listing state (now (buys .entry)) (now (sells .entry))))) ⌝ }
 {
     let contracts = state.contractcount;
@@ -124,7 +124,7 @@ fn is_used_once(list: &[u32], count: usize) -> bool
 }
 
 pub fn used_once(state: State, buys: &[u32], sells: &[u32], word: usize) -> bool
-    requires { ⌜ Ready state (now buys) (now sells) × (word < orderStride) ⌝ }
+    requires { ⌜ QueuesReady state (now buys) (now sells) × (word < orderStride) ⌝ }
     ensures { λ r. ⌜ r ≡ wellformed.usedOnce (wellformed.allListed (wordOf word) (tabulate (state .contractcount) (listing state (now (buys .entry)) (now (sells .entry))))) ⌝ }
 {
     let listed = all_listed(state, buys, sells, word);

@@ -8,7 +8,7 @@ ghost use Rattle.laws.specs.Choice.{all, allOf};
 ghost use Rattle.rules.specs.Bounds.{inAuction, termsInRange};
 ghost use Rattle.rules.specs.Memory.{queueIn, firstWord};
 ghost use Rattle.rules.specs.WellFormed.{contractInRange, ahead, sorted, uncrossed, orderInRange};
-ghost use Rattle.audit.specs.Parts.{Ready, listing, listingInRange};
+ghost use Rattle.audit.specs.Parts.{QueuesReady, listing, listingInRange};
 use book::queue;
 use rules::Contract;
 use rules::Order;
@@ -150,7 +150,7 @@ fn orders_in_range(
 
 // The contract at a place with its queues.
 fn listing_in_range(state: State, c: usize, buys: &[u32], sells: &[u32]) -> bool
-    requires { ⌜ Ready state (now buys) (now sells) × (c < state .contractcount) ⌝ }
+    requires { ⌜ QueuesReady state (now buys) (now sells) × (c < state .contractcount) ⌝ }
     ensures { λ r. ⌜ r ≡ listingInRange (state .accountcount) (state .next) (state .nextstamp) (listing state (now (buys .entry)) (now (sells .entry)) c) ⌝ }
 {
     let contract = state.contracts[c];
@@ -178,7 +178,7 @@ fn listing_in_range(state: State, c: usize, buys: &[u32], sells: &[u32]) -> bool
 }
 
 pub fn listings_in_range(state: State, buys: &[u32], sells: &[u32]) -> bool
-    requires { ⌜ Ready state (now buys) (now sells) ⌝ }
+    requires { ⌜ QueuesReady state (now buys) (now sells) ⌝ }
     ensures { λ r. ⌜ r ≡ all (λ c. listingInRange (state .accountcount) (state .next) (state .nextstamp) (listing state (now (buys .entry)) (now (sells .entry)) c)) (state .contractcount) ⌝ }
 {
     let contracts = state.contractcount;

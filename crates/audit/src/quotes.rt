@@ -9,7 +9,7 @@ ghost use Rattle.rules.specs.Bounds.{maxAccounts};
 ghost use Rattle.rules.specs.Exchange.{noOrder};
 ghost use Rattle.rules.specs.Memory.{queueIn, firstWord};
 ghost use Rattle.rules.specs.WellFormed.{listingQuoted, queueQuoted};
-ghost use Rattle.audit.specs.Parts.{Markable, Ready, listing, listingInRange};
+ghost use Rattle.audit.specs.Parts.{Markable, QueuesReady, listing, listingInRange};
 use book::queue;
 use rules::State;
 
@@ -45,7 +45,7 @@ fn queue_quoted(state: State, area: &[u32], c: usize, count: usize) -> bool
 
 // The contract at a place with its queues.
 fn listing_quoted(state: State, c: usize, buys: &[u32], sells: &[u32]) -> bool
-    requires { ⌜ Ready state (now buys) (now sells) × (c < state .contractcount) × (listingInRange (state .accountcount) (state .next) (state .nextstamp) (listing state (now buys) (now sells) c) ≡ true) ⌝ }
+    requires { ⌜ QueuesReady state (now buys) (now sells) × (c < state .contractcount) × (listingInRange (state .accountcount) (state .next) (state .nextstamp) (listing state (now buys) (now sells) c) ≡ true) ⌝ }
     ensures { λ r. ⌜ r ≡ listingQuoted (take (state .accountcount) (state .accounts)) (listing state (now (buys .entry)) (now (sells .entry)) c) ⌝ }
 {
     let buycount = state.buycounts[c];
@@ -57,7 +57,7 @@ fn listing_quoted(state: State, c: usize, buys: &[u32], sells: &[u32]) -> bool
 }
 
 pub fn listings_quoted(state: State, buys: &[u32], sells: &[u32]) -> bool
-    requires { ⌜ Ready state (now buys) (now sells) × (all (λ c. listingInRange (state .accountcount) (state .next) (state .nextstamp) (listing state (now buys) (now sells) c)) (state .contractcount) ≡ true) ⌝ }
+    requires { ⌜ QueuesReady state (now buys) (now sells) × (all (λ c. listingInRange (state .accountcount) (state .next) (state .nextstamp) (listing state (now buys) (now sells) c)) (state .contractcount) ≡ true) ⌝ }
     ensures { λ r. ⌜ r ≡ all (λ c. listingQuoted (take (state .accountcount) (state .accounts)) (listing state (now (buys .entry)) (now (sells .entry)) c)) (state .contractcount) ⌝ }
 {
     let contracts = state.contractcount;

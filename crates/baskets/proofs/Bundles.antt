@@ -11,7 +11,7 @@ use lib.ListN.{length, take, drop, replicate}
 use lib.Seq.{take-at}
 use Rattle.laws.specs.Choice.{either-false, pick}
 use Rattle.laws.specs.Tabulate.{tabulate, length-tabulate}
-use Rattle.laws.specs.Written.{written}
+use Rattle.laws.specs.Written.{overwritten}
 use Rattle.areas.specs.Records.{store}
 use Rattle.areas.proofs.Records.{store-nil}
 use Rattle.rules.specs.Answers.{firstOf, _when_}
@@ -111,13 +111,13 @@ same-bundle m cs ds count area {b} {m′} {answers} same is =
 
 -- the commands of a bundle's bytes, read into an array
 pub read-bundle : (bytes : List ℕ) {array : List Command} {count n : ℕ} → n ≡ min count maxBundle
-    → array ≡ written (λ i. commandFrom bytes (commandWidth * i)) (replicate maxBundle Malformed) n → count ≡ length bytes / commandWidth
+    → array ≡ overwritten (λ i. commandFrom bytes (commandWidth * i)) (replicate maxBundle Malformed) n → count ≡ length bytes / commandWidth
     → count ≤ maxBundle → take count array ≡ take count (wholeCommands bytes)
-unfolding written firstCommands
+unfolding overwritten firstCommands
 read-bundle bytes {array} {count} {n} fewer read whole h =
     let e : n ≡ count = omega arith in
     let f : ℕ → Command = λ i. commandFrom bytes (commandWidth * i) in
-    ap (take count) (read ∙ ap (λ (k : ℕ). written f (replicate maxBundle Malformed) k) e)
+    ap (take count) (read ∙ ap (λ (k : ℕ). overwritten f (replicate maxBundle Malformed) k) e)
     ∙ take-at (tabulate count f) (drop count (replicate maxBundle Malformed)) count (length-tabulate count f)
     ∙ sym (take-first bytes count)
     ∙ ap (λ (k : ℕ). take count (firstCommands bytes k)) whole

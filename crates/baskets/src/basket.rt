@@ -4,7 +4,7 @@ ghost use mathlib.Core.Bool.{true};
 ghost use mathlib.Core.Path.{_≡_};
 ghost use Prim.Native.Nat.{_*_, _/_, _≤_};
 ghost use lib.ListN.{length, replicate, take};
-ghost use Rattle.laws.specs.Written.{written};
+ghost use Rattle.laws.specs.Written.{overwritten};
 ghost use Rattle.areas.specs.Records.{store};
 ghost use Rattle.rules.specs.Condition3.{run};
 ghost use Rattle.rules.specs.DayFile.{commandFrom, commandWidth};
@@ -109,7 +109,7 @@ pub fn submit(
 // more than a bundle has.
 fn read_commands(bytes: &[u8], count: usize) -> [Command; MAX_BUNDLE]
     requires { ⌜ (count ≤ maxBundle) × (commandWidth * count ≤ length (now bytes)) ⌝ }
-    ensures { λ r. ⌜ r ≡ written (λ i. commandFrom (now (bytes .entry)) (commandWidth * i)) (replicate maxBundle Malformed) count ⌝ }
+    ensures { λ r. ⌜ r ≡ overwritten (λ i. commandFrom (now (bytes .entry)) (commandWidth * i)) (replicate maxBundle Malformed) count ⌝ }
 {
     let mut commands = [Command::Malformed; MAX_BUNDLE];
     let mut k: usize = 0;

@@ -10,7 +10,7 @@ use Rattle.rules.specs.Matching.{Entered, enter}
 use Rattle.rules.specs.Memory.{queueIn}
 use Rattle.rules.specs.declared.Account.{Account}
 use Rattle.rules.specs.declared.Taker.{Taker}
-use Rattle.bench_book.specs.Calls.{Book, takerOf, accountsOf, start, outcome, after, entered, Ready, SweptOf}
+use Rattle.bench_book.specs.Calls.{Book, takerOf, accountsOf, start, outcome, after, entered, BookReady, SweptOf}
 use Rattle.bench_book.specs.declared.Sweeps.{Sweeps}
 
 abbrev pub bookOf : List ℕ → ℕ → List ℕ → ℕ → List ℕ → ℕ → ℕ → List Account → Book
@@ -35,11 +35,11 @@ begun s {owns} {opposites} {area} e = ap (bookOf owns (s .own) opposites (s .opp
 module _ (s : Sweeps) {t : Taker} (same : t ≡ takerOf s) (b₀ : Book) (n : ℕ)
     {owns : List ℕ} {own : ℕ} {opposites : List ℕ} {opposite : ℕ} {area : List ℕ} {made last : ℕ} {accounts : List Account}
     (now : bookOf owns own opposites opposite area made last accounts ≡ entered s b₀ n) where
-  pub ready : Ready s (entered s b₀ n) → EntryReady t (s .lots) (s .price) (s .day) last accounts owns own opposites opposite area made
+  pub ready : BookReady s (entered s b₀ n) → EntryReady t (s .lots) (s .price) (s .day) last accounts owns own opposites opposite area made
   ready h =
       subst (λ (u : Taker). EntryReady u (s .lots) (s .price) (s .day) last accounts owns own opposites opposite area made)
       (sym same)
-      (subst (Ready s) (sym now) h)
+      (subst (BookReady s) (sym now) h)
 
   module _ {r : Entry} {owns′ opposites′ area′ : List ℕ} where
     after-it : {e : Entered}

@@ -92,14 +92,14 @@ entered s b zero = b
 entered s b (suc n) = after s (entered s b n) (outcome s (entered s b n))
 
 -- what the book asks for, each time
-abbrev pub Ready : Sweeps → Book → Type 0
-Ready s b =
+abbrev pub BookReady : Sweeps → Book → Type 0
+BookReady s b =
     EntryReady (takerOf s) (s .lots) (s .price) (s .day) (b .last) (b .accounts) (b .owns) (b .own) (b .opposites) (b .opposite) (b .area) (b .made)
 
 pub record SweepsReady (s : Sweeps) (times : ℕ) (owns opposites area : List ℕ) : Type 0 where
   pub contract : s .contract < maxContracts
   pub probe : s .probe < maxAccounts
-  pub each : (n : ℕ) → n < times → Ready s (entered s (start s owns opposites area) n)
+  pub each : (n : ℕ) → n < times → BookReady s (entered s (start s owns opposites area) n)
 
 -- the answer, and all three areas
 pub record SweptOf (s : Sweeps) (b : Book) (r : Swept) (owns opposites area : List ℕ) : Type 0 where

@@ -14,7 +14,7 @@ use rules::Taker;
 use rules::sizes::ACCOUNT_WORD;
 
 // The lots of the counterparts: reading stops at the first order that is none.
-pub fn fillable(area: &[u32], c: usize, count: usize, t: Taker) -> u64
+pub fn fillable_front(area: &[u32], c: usize, count: usize, t: Taker) -> u64
     requires { ⌜ (count ≤ maxResting) × (firstWord c count ≤ length (now area)) ⌝ }
     ensures { λ r. ⌜ r ≡ early.fillableFront t (queueIn (now (area .entry)) c count) ⌝ }
 {

@@ -38,7 +38,7 @@ use Rattle.rules.proofs.Refusals.{Failed, failed, first-append, first-there}
 use Rattle.invariants.proofs.ChangeKeeps.{change-counted, change-keeps}
 use Rattle.invariants.proofs.Clauses.{Counted, WellFormed, well-formed-test}
 use Rattle.invariants.proofs.MemoryKeeps.{sound, step-in-keeps, step-in-read}
-use Rattle.engine.specs.Arrival.{ArrivedIs, Ready, ordersOn}
+use Rattle.engine.specs.Arrival.{ArrivalReady, ArrivedIs, ordersOn}
 use Rattle.engine.specs.Decision.{DecisionIs, acceptedBy, listedIn, outcomeOf, refusedBy, withCarried}
 use Rattle.engine.specs.Outcome.{OutcomeIs, acceptedWith, withCountsIn}
 use Rattle.book.specs.Removal.{RemovedIs}
@@ -637,7 +637,7 @@ module _ {s : State} {buys sells trades : List ℕ} (w : WellFormedState s buys 
 
               -- what it leaves is written over the counts: whether they were one less before plays no part
               module _ {a : Arrival} (ea : a ≡ arrivalOf t buys′ sells′ o number 0 (t .next)) where
-                pub enters : Ready (t .accounts) a buys′ sells′ trades
+                pub enters : ArrivalReady (t .accounts) a buys′ sells′ trades
                 enters = ready gone-formed o number 0 (t .next) lost-enterable ea
 
                 accounts-are : t .accounts ≡ s .accounts
@@ -658,4 +658,4 @@ module _ {s : State} {buys sells trades : List ℕ} (w : WellFormedState s buys 
                     (order-entered gone-formed o number 0 (t .next) lost-enterable ea b d (subst⁻¹ (λ (v : List Account). ArrivedIs v a buys′ sells′ trades q b d e) accounts-are arrived)))
 
                 pub lost-decided : {d : Decision} {b e : List ℕ} → ArriveIs a buys′ sells′ d b e → DecisionIs m command d b e trades
-                lost-decided = arrived-decided (subst (λ (v : List Account). Ready v a buys′ sells′ trades) accounts-are enters) entered
+                lost-decided = arrived-decided (subst (λ (v : List Account). ArrivalReady v a buys′ sells′ trades) accounts-are enters) entered

@@ -11,7 +11,7 @@ use Rattle.rules.specs.Matching.{tradedLots}
 use Rattle.rules.specs.Settlement.{tradesIn, tradedValue, weightedPrice, priceFrom, settlementPrice}
 use Rattle.rules.specs.declared.{Order.Order, Trade.Trade}
 use Rattle.rules.proofs.InUse.{used-holding}
-use Rattle.clients.specs.Clients.{Clients, isPosted, clientPlace, clientTrade, clientAccount, clientExchange, startHolding, posted, clientPlaces, maxClients}
+use Rattle.clients.specs.Clients.{Clients, isPosted, clientPlace, clientTrade, clientAccount, clientExchange, clientHolding, posted, clientPlaces, maxClients}
 
 -- ---- postings
 
@@ -28,15 +28,15 @@ posted-place clients postings number e =
 -- ---- accounts
 
 module _ (b : Clients) where
-  pub client-holding : (k c : ℕ) → k < b .count → k < clientPlaces → c < maxContracts → holdingAt (tabulate clientPlaces (clientAccount b)) k c ≡ startHolding (b .starts) k c
+  pub client-holding : (k c : ℕ) → k < b .count → k < clientPlaces → c < maxContracts → holdingAt (tabulate clientPlaces (clientAccount b)) k c ≡ clientHolding (b .starts) k c
   unfolding holdingAt accountAt clientAccount
   client-holding k c l few h =
       rw (getD-tabulate clientPlaces k (clientAccount b) noAccount few, lt-ltb k (b .count) l)
-      (getD-tabulate maxContracts c (startHolding (b .starts) k) noHolding h)
+      (getD-tabulate maxContracts c (clientHolding (b .starts) k) noHolding h)
 
   module _ (x : Exchange) (a : ℕ) where
     pub start-at : (k c : ℕ) → k < b .count → b .count ≤ maxClients → c < length (x .listings) → length (x .listings) ≤ maxContracts
-        → holdingAt (clientExchange x a b .accounts) k c ≡ startHolding (b .starts) k c
+        → holdingAt (clientExchange x a b .accounts) k c ≡ clientHolding (b .starts) k c
     unfolding clientExchange
     start-at k c l few h four′ =
         used-holding (length (x .listings)) clientPlaces (tabulate clientPlaces (clientAccount b)) k c (omega arith) h

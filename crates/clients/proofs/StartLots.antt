@@ -4,11 +4,11 @@ use Rattle.laws.specs.Logic.{Bool, true, false, _&&_, List, [], _∷_, _++_, ap
 use Rattle.laws.specs.Numbers.{ℕ, _+_, _*_, _<_, _≤_, arith, eq-eqb, ne-eqb, lt-ltb, le-ltb, eqb, ltb, length, getD, drop-of-length-le}
 use Rattle.laws.specs.Choice.{pick, all, all-none, all-more, all-stop, false-both, both-false, true-both}
 use Rattle.laws.specs.Tabulate.{tabulate}
-use Rattle.laws.specs.Written.{written, Writing, writing-done}
+use Rattle.laws.specs.Written.{overwritten, Writing, writing-done}
 use Rattle.rules.specs.Exchange.{noHolding}
 use Rattle.rules.specs.declared.Holding.{Holding}
 use Rattle.clients.specs.Parts.{clientsWith}
-use Rattle.clients.specs.Clients.{clientAccount, startHolding, startLong, startShort, total}
+use Rattle.clients.specs.Clients.{clientAccount, clientHolding, startLong, startShort, total}
 use Rattle.clients.proofs.Totals.{total-none, total-more, total-ext}
 
 -- ---- words added up: each is below 2^32
@@ -83,15 +83,15 @@ module _ (starts : List ℕ) (clients : ℕ) (holdings : List Holding) (contract
 
 module _ (starts : List ℕ) (clients k : ℕ) where
   pub no-client : (c : ℕ) → clients ≤ k
-      → record { long = 0; short = 0; startlong = 0; startshort = 0 } ≡ startHolding (pick (ltb k clients) starts []) k c
+      → record { long = 0; short = 0; startlong = 0; startshort = 0 } ≡ clientHolding (pick (ltb k clients) starts []) k c
   no-client c l = rw (le-ltb k clients l)
 
   pub client-starts : (c long short : ℕ) → k < clients → long ≡ getD starts (8 * k + 2 * c) 0 → short ≡ getD starts (8 * k + 2 * c + 1) 0
-      → record { long = long; short = short; startlong = long; startshort = short } ≡ startHolding (pick (ltb k clients) starts []) k c
+      → record { long = long; short = short; startlong = long; startshort = short } ≡ clientHolding (pick (ltb k clients) starts []) k c
   client-starts c long short l e f = rw (lt-ltb k clients l, e, f)
 
   abbrev heldBy : ℕ → Holding
-  heldBy c = startHolding (pick (ltb k clients) starts []) k c
+  heldBy c = clientHolding (pick (ltb k clients) starts []) k c
 
   pub four-holdings : (h₀ h₁ h₂ h₃ : Holding) → h₀ ≡ heldBy 0 → h₁ ≡ heldBy 1 → h₂ ≡ heldBy 2 → h₃ ≡ heldBy 3
       → record { balance = pos 0; maker = 0; holdings = h₀ ∷ h₁ ∷ h₂ ∷ h₃ ∷ [] } ≡ clientAccount (clientsWith clients starts) k
@@ -99,6 +99,6 @@ module _ (starts : List ℕ) (clients k : ℕ) where
   four-holdings h₀ h₁ h₂ h₃ e₀ e₁ e₂ e₃ = λ i. record { balance = pos 0; maker = 0; holdings = e₀ i ∷ e₁ i ∷ e₂ i ∷ e₃ i ∷ [] }
 
 pub all-written : {A : Type 0} (f : ℕ → A) (l next : List A) (n k : ℕ) → length l ≡ n → n ≤ k → Writing f l n k next → next ≡ tabulate n f
-unfolding written
+unfolding overwritten
 all-written {A} f l next n k e h w =
     writing-done f l n k next h w ∙ ap (λ (r : List A). tabulate n f ++ r) (drop-of-length-le l {i = n} (omega arith)) ∙ append-nil _

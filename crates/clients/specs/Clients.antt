@@ -89,8 +89,8 @@ clientTrade a clients postings t =
     }
 
 -- "from the client's own start-of-day lots"
-abbrev pub startHolding : List ℕ → ℕ → ℕ → Holding
-startHolding starts k c =
+abbrev pub clientHolding : List ℕ → ℕ → ℕ → Holding
+clientHolding starts k c =
     record {
       long = startLong starts k c;
       short = startShort starts k c;
@@ -100,7 +100,7 @@ startHolding starts k c =
 
 -- what stands at place k: a client, or, past the clients, no lots
 unfoldable pub clientAccount : Clients → ℕ → Account
-clientAccount b k = record { balance = pos 0; maker = 0; holdings = tabulate maxContracts (startHolding (pick (ltb k (b .count)) (b .starts) []) k) }
+clientAccount b k = record { balance = pos 0; maker = 0; holdings = tabulate maxContracts (clientHolding (pick (ltb k (b .count)) (b .starts) []) k) }
 
 -- Contracts, quotes and trade prices are the day's, so the settlement price due is too. A client's closing and holding profit are then
 -- document 01's `closingProfit` and `holdingProfit`, Article 32, of this exchange, and its holdings are the replay's.

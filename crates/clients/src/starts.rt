@@ -10,7 +10,7 @@ ghost use Rattle.laws.specs.Tabulate.{tabulate};
 ghost use Rattle.rules.specs.Bounds.{maxContracts, maxAccounts};
 ghost use Rattle.rules.specs.Exchange.{noHolding};
 ghost use Rattle.clients.specs.Parts.{clientsWith};
-ghost use Rattle.clients.specs.Clients.{clientAccount, startHolding, startLong, startShort, total, maxClients, startsStride};
+ghost use Rattle.clients.specs.Clients.{clientAccount, clientHolding, startLong, startShort, total, maxClients, startsStride};
 use rules::Account;
 use rules::Holding;
 
@@ -68,7 +68,7 @@ pub fn add_up(
 // The lots in contract c of the client at place k; past the clients, none.
 fn start_holding(starts: &[u32], clients: usize, k: usize, c: usize) -> Holding
     requires { ⌜ (k < maxAccounts) × (c < maxContracts) ⌝ }
-    ensures { λ r. ⌜ r ≡ startHolding (pick (ltb k clients) (now (starts .entry)) []) k c ⌝ }
+    ensures { λ r. ⌜ r ≡ clientHolding (pick (ltb k clients) (now (starts .entry)) []) k c ⌝ }
 {
     if clients <= k {
         return Holding {

@@ -19,5 +19,5 @@ accountNumber (Quote account contract lots buy sell) = account
 accountNumber (Change account contract number lots price) = account
 
 -- its place among so many accounts in use, the first where it is none of them
-abbrev pub accountPlace : ℕ → ℕ → ℕ
-accountPlace number accounts = pick (isAbsent number accounts) 0 (placeOf number)
+abbrev pub placeAmong : ℕ → ℕ → ℕ
+placeAmong number accounts = pick (isAbsent number accounts) 0 (placeOf number)

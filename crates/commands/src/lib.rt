@@ -3,7 +3,7 @@
 ghost use mathlib.Core.Path.{_≡_};
 ghost use mathlib.Core.List.{[], _∷_};
 ghost use Rattle.rules.specs.Command.{zeros, priceCondition, timeCondition, insertFlags, newOrder, depositOf, withdrawOf, insertOf, cancelOf, pullOf, phaseOf, settleOf, quoteOf, changeOf, commandOf, kindNumber, isMalformed, isSettle};
-ghost use Rattle.commands.specs.Accounts.{accountNumber, accountPlace};
+ghost use Rattle.commands.specs.Accounts.{accountNumber, placeAmong};
 use rules::Command;
 use rules::NewOrder;
 use rules::PriceCondition;
@@ -368,7 +368,7 @@ fn account_number(command: Command) -> u32
 // The place of that account among so many, the first where it is none of them: whoever owns the state reads the account there and hands it
 // to the command's kind, since a call that reads one account of a state at a place that varies copies them all.
 pub fn account_place(command: Command, accounts: usize) -> usize
-    ensures { λ r. ⌜ r ≡ accountPlace (accountNumber command) accounts ⌝ }
+    ensures { λ r. ⌜ r ≡ placeAmong (accountNumber command) accounts ⌝ }
 {
     let number = account_number(command);
     if number == 0 {

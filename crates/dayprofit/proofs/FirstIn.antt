@@ -6,7 +6,7 @@ use Rattle.laws.specs.Numbers.{ℕ, _+_, _-_, _*_, _≤_, min, add-zero, zero-a
 use Rattle.laws.specs.Ring.{d-eq, ring}
 use Rattle.laws.specs.Sums.{sumOf, sumOf-append}
 use Rattle.rules.specs.Article32.{lotsIn}
-use Rattle.rules.specs.Settlement.{Leg, leg, Batch, Day, dayStart, gain, firstLots, otherLots, opened, afterDayLeg, afterLegs, holdingGain}
+use Rattle.rules.specs.Settlement.{Leg, leg, Batch, Day, dayStart, gain, firstLots, otherLots, afterDayLeg, afterLegs, holdingGain}
 use Rattle.accounting.specs.DayLegs.{Covered, AllCovered}
 use Rattle.accounting.proofs.DayProfit.{lots-first, lots-other}
 use Rattle.dayprofit.specs.Sides.{lotsIf, valueIf, batchIf, batchesOf, closedLots, closedValue, openedToday, cost, everOpen, closingFrom, holdingFrom}

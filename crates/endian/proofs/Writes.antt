@@ -10,17 +10,17 @@ use Rattle.endian.specs.Written.{Written}
 -- ---- one thing after the other
 
 -- from the two equations, a bound on the bytes, and room for them
-pub written : {before bytes after : List ℕ} (most at next : ℕ) → after ≡ over before at bytes → next ≡ at + length bytes
+pub written-from : {before bytes after : List ℕ} (most at next : ℕ) → after ≡ over before at bytes → next ≡ at + length bytes
     → length bytes ≤ most → at + length bytes ≤ length before → Written most before at bytes after next
-written {before} {bytes} most at next e n s room =
+written-from {before} {bytes} most at next e n s room =
     record { content = e; ends = n; short = s; kept = ap length e ∙ length-over before at bytes room; inside = omega arith }
 
 -- one byte, and none
 pub one-byte : (before : List ℕ) (at byte : ℕ) → at + 1 ≤ length before → Written 1 before at (byte ∷ []) (set before at byte) (at + 1)
-one-byte before at byte room = written 1 at (at + 1) (set-over before at byte (omega arith)) refl (le-refl 1) room
+one-byte before at byte room = written-from 1 at (at + 1) (set-over before at byte (omega arith)) refl (le-refl 1) room
 
 pub no-byte : (before : List ℕ) (at : ℕ) → at ≤ length before → Written 0 before at [] before at
-no-byte before at room = written 0 at at (sym (over-nil before at)) (omega arith) (le-refl 0) (omega arith)
+no-byte before at room = written-from 0 at at (sym (over-nil before at)) (omega arith) (le-refl 0) (omega arith)
 
 module _ {before after bytes : List ℕ} {most at next : ℕ} (w : Written most before at bytes after next) where
   -- a looser bound

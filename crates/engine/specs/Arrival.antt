@@ -73,13 +73,13 @@ Sweeps accounts a buys sells area =
     SweepReady (a .taker) (a .order .lots) (a .listed .terms .last) accounts (sideArea (not (a .taker .sell)) buys sells) (ordersOn (not (a .taker .sell)) (a .listed)) area (a .listed .recorded)
 
 -- ready to be entered with these accounts: in auction nothing is swept
-pub record Ready (accounts : List Account) (a : Arrival) (buys sells area : List ℕ) : Type 0 where
+pub record ArrivalReady (accounts : List Account) (a : Arrival) (buys sells area : List ℕ) : Type 0 where
   pub arrives : Arrives a buys sells
   pub sweeps : inAuction (a .listed .terms) ≡ false → Sweeps accounts a buys sells area
 
 -- ready to trade
 pub record Trades (accounts : List Account) (a : Arrival) (buys sells area : List ℕ) : Type 0 where
-  pub ready : Ready accounts a buys sells area
+  pub ready : ArrivalReady accounts a buys sells area
   pub matched : inAuction (a .listed .terms) ≡ false
 
 abbrev pub ArrivedIs : List Account → Arrival → List ℕ → List ℕ → List ℕ → Carried → List ℕ → List ℕ → List ℕ → Type 0

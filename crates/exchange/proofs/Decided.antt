@@ -19,7 +19,7 @@ use Rattle.rules.specs.declared.Answer.{Answer}
 use Rattle.rules.specs.declared.Command.{Command}
 use Rattle.rules.specs.declared.Command.the-variants.{Malformed}
 use Rattle.rules.specs.declared.State.{State}
-use Rattle.commands.specs.Accounts.{accountNumber, accountPlace}
+use Rattle.commands.specs.Accounts.{accountNumber, placeAmong}
 use Rattle.engine.specs.Decision.{Carriable, CarriedIs, CarriedOut, DecisionIs, HeldBy, PendingDone, PendingReady, UpdateIs, commandLeft, leftFor, refusedBy, withListed}
 use Rattle.engine.specs.Outcome.{OutcomeIs, withAccountsIn, withBalanceAt}
 use Rattle.engine.specs.declared.answers.Outcome.{Outcome}
@@ -42,14 +42,14 @@ use Rattle.exchange.proofs.Responses.{malformed-code, plain-response}
 -- ---- the account that a command names
 
 -- it is one of 32, whatever is named
-pub place-fits : {s : State} {buys sells trades : List ℕ} → WellFormedState s buys sells trades → (number : ℕ) {place : ℕ} → place ≡ accountPlace number (s .accountcount) → place < maxAccounts
+pub place-fits : {s : State} {buys sells trades : List ℕ} → WellFormedState s buys sells trades → (number : ℕ) {place : ℕ} → place ≡ placeAmong number (s .accountcount) → place < maxAccounts
 place-fits {s} w number e = rw e (by-absence (isAbsent number (s .accountcount)) refl)
   where
     by-absence : (t : Bool) → isAbsent number (s .accountcount) ≡ t → pick t 0 (placeOf number) < maxAccounts
     by-absence true a = omega arith
     by-absence false a = omega (arith, place-below number (s .accountcount) a .1, formed w .accounts-high)
 
-pub held-at : (s : State) (command : Command) {place : ℕ} → place ≡ accountPlace (accountNumber command) (s .accountcount) → HeldBy s (accountNumber command) (getD (s .accounts) place noAccount)
+pub held-at : (s : State) (command : Command) {place : ℕ} → place ≡ placeAmong (accountNumber command) (s .accountcount) → HeldBy s (accountNumber command) (getD (s .accounts) place noAccount)
 held-at s command e = rw e
 
 -- a command that is told to be of a kind

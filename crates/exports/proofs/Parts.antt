@@ -13,28 +13,28 @@ use Rattle.rules.specs.Memory.{firstWord, queueStride}
 use Rattle.rules.specs.declared.State.{State}
 use Rattle.rules.specs.Side.{noQueue, queueWords, sideWords}
 use Rattle.book.proofs.Sides.{side-length}
-use Rattle.exports.specs.Calls.{SideIs, askedWords, sideCount}
+use Rattle.exports.specs.Calls.{SideIs, askedCount, askedWords}
 
 -- ---- the state's count
 
 module _ (state : State) (sell : Bool) (contract : ℕ) where
-  pub no-number : contract < 1 → 0 ≡ sideCount state sell contract
-  unfolding sideCount
+  pub no-number : contract < 1 → 0 ≡ askedCount state sell contract
+  unfolding askedCount
   no-number h = rw (lt-leb 1 contract h)
 
-  pub no-place : maxContracts < contract → 0 ≡ sideCount state sell contract
-  unfolding sideCount
+  pub no-place : maxContracts < contract → 0 ≡ askedCount state sell contract
+  unfolding askedCount
   no-place h =
       let some : 1 ≤ contract = omega arith in
       rw (le-leb 1 contract some, lt-leb contract maxContracts h)
 
   module _ (some : 1 ≤ contract) (placed : contract ≤ maxContracts) where
-    pub count-of-sells : sell ≡ true → getD (state .sellcounts) (contract - 1) 0 ≡ sideCount state sell contract
-    unfolding sideCount
+    pub count-of-sells : sell ≡ true → getD (state .sellcounts) (contract - 1) 0 ≡ askedCount state sell contract
+    unfolding askedCount
     count-of-sells e = rw (le-leb 1 contract some, le-leb contract maxContracts placed, e)
 
-    pub count-of-buys : sell ≡ false → getD (state .buycounts) (contract - 1) 0 ≡ sideCount state sell contract
-    unfolding sideCount
+    pub count-of-buys : sell ≡ false → getD (state .buycounts) (contract - 1) 0 ≡ askedCount state sell contract
+    unfolding askedCount
     count-of-buys e = rw (le-leb 1 contract some, le-leb contract maxContracts placed, e)
 
 -- ---- where the queue asked for stands
@@ -84,16 +84,16 @@ module _ (state : State) (buys sells : List ℕ) (sell : Bool) (contract : ℕ) 
     some-words : length (askedWords state buys sells sell contract) ≡ 0 → ⊥
     some-words e = some (ap length is ∙ e)
 
-    a-queue : noQueue (pick sell sells buys) contract (state .contractcount) (sideCount state sell contract) ≡ false
-    a-queue = has-queue buys sells sell contract (state .contractcount) (sideCount state sell contract) some-words
+    a-queue : noQueue (pick sell sells buys) contract (state .contractcount) (askedCount state sell contract) ≡ false
+    a-queue = has-queue buys sells sell contract (state .contractcount) (askedCount state sell contract) some-words
 
     pub placed : (1 ≤ contract) × (contract ≤ maxContracts)
-    placed = in-place buys sells sell contract (state .contractcount) (sideCount state sell contract) a-queue
+    placed = in-place buys sells sell contract (state .contractcount) (askedCount state sell contract) a-queue
 
     pub whole-part : SideIs state buys sells sell contract (record { first = queueStride * (contract - 1); words = length queue })
     whole-part =
         record {
           first = rw (ne-eqb (length (askedWords state buys sells sell contract)) 0 some-words);
           words = ap length is;
-          part = rw is (held buys sells sell contract (state .contractcount) (sideCount state sell contract) a-queue);
+          part = rw is (held buys sells sell contract (state .contractcount) (askedCount state sell contract) a-queue);
         }

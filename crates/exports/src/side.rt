@@ -1,6 +1,6 @@
 // One side's resting orders, told by where they stand: an export cannot give back a part of an area itself.
 ghost use mathlib.Core.Path.{_≡_};
-ghost use Rattle.exports.specs.Calls.{SideIs, sideCount};
+ghost use Rattle.exports.specs.Calls.{SideIs, askedCount};
 use rules::State;
 
 // A part of an area: its first word, and how many words it has. An empty part begins at 0.
@@ -11,7 +11,7 @@ pub struct Part {
 }
 
 fn count_of(state: State, sell: bool, contract: usize) -> usize
-    ensures { λ r. ⌜ r ≡ sideCount state sell contract ⌝ }
+    ensures { λ r. ⌜ r ≡ askedCount state sell contract ⌝ }
 {
     if contract < 1 {
         return 0;

@@ -29,7 +29,7 @@ use Rattle.book.proofs.Trading.{all-booked}
 use Rattle.matching.specs.Entry.{EntryIs, EntryReady}
 use Rattle.matching.specs.Sweep.{SweepReady}
 use Rattle.matching.specs.declared.entry.Entry.{Entry}
-use Rattle.engine.specs.Arrival.{Arrived, Arrives, ArrivedIs, Arriving, Ready, Trades, enteredFor, enteredOn, ordersOn}
+use Rattle.engine.specs.Arrival.{Arrived, Arrives, ArrivedIs, Arriving, ArrivalReady, Trades, enteredFor, enteredOn, ordersOn}
 use Rattle.engine.specs.Decision.{CarriedOut, DecisionIs, LeftIs, UpdateIs, acceptedBy, leftFor, outcomeOf}
 use Rattle.engine.specs.Outcome.{OutcomeIs}
 use Rattle.engine.specs.Sides.{sideArea}
@@ -252,7 +252,7 @@ module _ {a : Arrival} {buys sells : List ℕ} {d : Decision} {buys′ sells′ 
         by-update answer (Whole p) o k = absurd k
 
     module _ {accounts : List Account} {area : List ℕ} where
-      pub trades-then : Ready accounts a buys sells area → Trades accounts a buys′ sells′ area
+      pub trades-then : ArrivalReady accounts a buys sells area → Trades accounts a buys′ sells′ area
       trades-then ready = rw (untouched-then .1, untouched-then .2) (record { ready = ready; matched = untouched-then .0 })
 
       pub traded-then : {r : Carried} (buys″ sells″ : List ℕ) {area′ : List ℕ} → ArrivedIs accounts a buys′ sells′ area r buys″ sells″ area′ → ArrivedIs accounts a buys sells area r buys″ sells″ area′
@@ -260,7 +260,7 @@ module _ {a : Arrival} {buys sells : List ℕ} {d : Decision} {buys′ sells′ 
 
 -- ---- what is decided of a command that comes down to an order
 
-module _ {s : State} {buys sells trades : List ℕ} {command : Command} {a : Arrival} {buys₁ sells₁ : List ℕ} (ready : Ready (s .accounts) a buys₁ sells₁ trades)
+module _ {s : State} {buys sells trades : List ℕ} {command : Command} {a : Arrival} {buys₁ sells₁ : List ℕ} (ready : ArrivalReady (s .accounts) a buys₁ sells₁ trades)
     (gives : (r : Carried) (buys′ sells′ trades′ : List ℕ) → ArrivedIs (s .accounts) a buys₁ sells₁ trades r buys′ sells′ trades′ → OutcomeIs (stepIn (memory s buys sells trades) command) (outcomeOf s r) buys′ sells′ trades′) where
   carried : (r : Carried) (buys′ sells′ trades′ : List ℕ) → ArrivedIs (s .accounts) a buys₁ sells₁ trades r buys′ sells′ trades′ → CarriedOut (memory s buys sells trades) command r buys′ sells′ trades′
   carried r buys′ sells′ trades′ k = record { place = rw (k .listed) (ready .arrives .fits); outcome = gives r buys′ sells′ trades′ k }

@@ -35,7 +35,7 @@ use Rattle.invariants.proofs.Traded.{traded-counted}
 use Rattle.engine.specs.Sides.{sideArea, sideCount}
 use Rattle.refusals.specs.Insertion.{Present, QueueRoom}
 use Rattle.insertion.specs.Entry.{Enterable, Known, arrivalOf, enteredIn}
-use Rattle.engine.specs.Arrival.{Arrived, ArrivedIs, Ready, enteredFor, ordersOn}
+use Rattle.engine.specs.Arrival.{ArrivalReady, Arrived, ArrivedIs, enteredFor, ordersOn}
 use Rattle.engine.specs.Decision.{listedIn, outcomeOf, withCarried}
 use Rattle.engine.specs.Outcome.{OutcomeIs}
 use Rattle.engine.specs.declared.answers.Outcome.{Outcome}
@@ -204,7 +204,7 @@ module _ {s : State} {buys sells trades : List ℕ} (w : WellFormedState s buys 
         opposite = side-room m f c (here .contract) (not (o .sell));
       }
 
-  pub ready : {a : Arrival} → a ≡ arrivalOf s buys sells o number quote next → Ready (s .accounts) a buys sells trades
+  pub ready : {a : Arrival} → a ≡ arrivalOf s buys sells o number quote next → ArrivalReady (s .accounts) a buys sells trades
   ready is =
       rw is
       (record {

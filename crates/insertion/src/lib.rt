@@ -9,7 +9,7 @@ ghost use lib.ListN.{length};
 ghost use Rattle.rules.specs.Memory.{firstWord, memory, queueIn, WellFormedState};
 ghost use Rattle.rules.specs.declared.Command.the-variants.{Insert};
 ghost use Rattle.laws.specs.Choice.{pick};
-ghost use Rattle.engine.specs.Arrival.{Arriving, Arrives, ArrivedIs, Ready, Trades, enteredOn};
+ghost use Rattle.engine.specs.Arrival.{Arriving, Arrives, ArrivedIs, ArrivalReady, Trades, enteredOn};
 ghost use Rattle.engine.specs.Decision.{DecisionIs, HeldBy};
 ghost use Rattle.insertion.specs.Entry.{ArriveIs, ArriveOn, Known, TradedOn, TradesOn, arrivalOf, restedAlone, restsAlone};
 use engine::updates;
@@ -237,7 +237,7 @@ pub fn enter(
     sells: &mut [u32],
     trades: &mut [u32],
 ) -> Carried
-    requires { ⌜ Ready accounts a (now buys) (now sells) (now trades) ⌝ }
+    requires { ⌜ ArrivalReady accounts a (now buys) (now sells) (now trades) ⌝ }
     ensures { λ r. ⌜ ArrivedIs accounts a (now (buys .entry)) (now (sells .entry)) (now (trades .entry)) r (now (buys .exit)) (now (sells .exit)) (now (trades .exit)) ⌝ }
 {
     // before the areas are written: else the compiler keeps a copy of all accounts

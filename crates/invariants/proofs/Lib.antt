@@ -42,8 +42,8 @@ pub mod MemoryRoom
 pub mod MemoryLaws
 pub mod MemoryKeeps
 pub mod RoomBeyond
-pub mod PutTold
-pub mod ToldWhole
+pub mod StepByPlace
+pub mod ByPlaceWhole
 pub mod Opening
 pub mod Condition3
 pub mod SameInUse

@@ -13,21 +13,21 @@ use Rattle.rules.specs.declared.{Command.Command, Order.Order}
 use Rattle.rules.proofs.Codecs.{length-queue, length-trades}
 use Rattle.rules.proofs.InUse.{contracts-in-use, listing-in-use}
 use Rattle.rules.proofs.Stages.{decided}
-use Rattle.invariants.specs.InUse.{AgreeInUse, unchanged}
+use Rattle.invariants.specs.InUse.{AgreeInUse, refusalIn}
 use Rattle.invariants.proofs.MemoryKeeps.{memory-keeps, read-back}
 use Rattle.invariants.proofs.MemoryRoom.{memory-ok, room-test}
 
 -- ---- "a refusal gives three zeros and changes nothing"
 
-step-refused : (m : Memory) (c : Command) → (stepIn m c .answer .code ≡ 0 → ⊥) → stepIn m c ≡ unchanged m (stepIn m c .answer .code)
+step-refused : (m : Memory) (c : Command) → (stepIn m c .answer .code ≡ 0 → ⊥) → stepIn m c ≡ refusalIn m (stepIn m c .answer .code)
 unfolding stepIn
 step-refused m c =
-    decided (λ d. (d .answer .code ≡ 0 → ⊥) → inMemory m d ≡ unchanged m (d .answer .code)) (exchangeOf m) c
+    decided (λ d. (d .answer .code ≡ 0 → ⊥) → inMemory m d ≡ refusalIn m (d .answer .code)) (exchangeOf m) c
     (λ e h. absurd (h refl))
     (λ e h. refl)
 
 -- A REFUSAL CHANGES NOTHING: whatever the state and its areas hold, well formed or not
-pub refusal-changes-nothing : (m : Memory) (c : Command) → (respond m c .answer .code ≡ 0 → ⊥) → respond m c ≡ unchanged m (respond m c .answer .code)
+pub refusal-changes-nothing : (m : Memory) (c : Command) → (respond m c .answer .code ≡ 0 → ⊥) → respond m c ≡ refusalIn m (respond m c .answer .code)
 unfolding respond
 refusal-changes-nothing m c = by-test (wellFormedMemory m) (λ w. rw w (step-refused m c)) (λ w. rw w (λ h. refl))
 

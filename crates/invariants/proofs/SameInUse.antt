@@ -1,10 +1,14 @@
 -- Two well-formed memories that hold the same state in use, in other places or beside other words: every command gets the same answer
 -- from both and leaves the same state in use, so a run's claim on one is its claim on the other. Assumes nothing.
+use mathlib.Core.Bool.{true}
+use mathlib.Core.List.{List, [], _∷_}
+use mathlib.Core.Path.{_≡_, refl, sym, subst, ap, ap₂, _∙_}
+use Prim.Native.Nat.{ℕ}
+use lib.Dec.{eqb}
 use lib.IntN.{ℤ, pos, _+ℤ_, _-ℤ_, _*ℤ_}
-use Rattle.laws.specs.Logic.{true, List, [], _∷_, _≡_, refl, sym, ap, ap₂, subst, _∙_}
-use Rattle.laws.specs.Numbers.{ℕ, eqb, length}
+use lib.ListN.{length}
 use Rattle.laws.specs.Sums.{sumOf, sumTo}
-use Rattle.rules.specs.Condition3.{run, isAccepted, moveOf, movesOf, inTo, outOf, paidIn, paidOut, made, tradesMade, sales, costs, netHolding, balanceIn, netIn, loaded, loadedWorth, worth, Condition3}
+use Rattle.rules.specs.Condition3.{run, isAccepted, moveOf, movesOf, inTo, outOf, paidIn, paidOut, made, tradesMade, sales, costs, netHolding, balanceIn, netIn, loaded, loadedWorth, soldFor, costOf, atPrices, EndsSettled, Condition3}
 use Rattle.rules.specs.Exchange.{Exchange, accountAt, holdingAt, listingAt}
 use Rattle.rules.specs.Kinds.{Move, decide, step}
 use Rattle.rules.specs.Memory.{Memory, exchangeOf, respond, stepIn, wellFormedMemory}
@@ -19,10 +23,14 @@ pub record Same (m n : Memory) : Type 0 where
   pub formed′ : wellFormedMemory n ≡ true
   pub in-use : exchangeOf m ≡ exchangeOf n
 
+answer-is : (m : Memory) (c : Command) → wellFormedMemory m ≡ true → respond m c .answer ≡ decide (exchangeOf m) c .answer
+unfolding respond stepIn
+answer-is m c w = rw w
+
 module _ {m n : Memory} (s : Same m n) where
   pub same-answer : (c : Command) → respond m c .answer ≡ respond n c .answer
-  unfolding respond stepIn
-  same-answer c = (rw (s .formed)) ∙ ap (λ (x : Exchange). decide x c .answer) (s .in-use) ∙ sym (rw (s .formed′))
+  same-answer c =
+      answer-is m c (s .formed) ∙ ap (λ (x : Exchange). decide x c .answer) (s .in-use) ∙ sym (answer-is n c (s .formed′))
 
   same-step : (c : Command) → Same (respond m c .memory) (respond n c .memory)
   same-step c = record {
@@ -67,14 +75,16 @@ module _ (m′ : Memory) (x : Exchange) (vs : List Move) where
       sumTo accounts (balanceIn m′)
       ≡ (sumTo accounts balanceOf +ℤ sumTo accounts (λ a. pos (sumOf (inTo a) vs))) -ℤ sumTo accounts (λ a. pos (sumOf (outOf a) vs))
 
+  -- values by contract, times the multiplier
+  abbrev inAll : (ℕ → ℤ) → ℤ
+  inAll value = sumTo (length (x .listings)) (λ c. pos (listingAt x c .contract .multiplier) *ℤ value c)
+
   abbrev Each : ℕ → Exchange → Type 0
   Each a found =
       balanceIn m′ a
-      ≡ (((balanceOf a -ℤ sumTo (length (x .listings)) (λ c. pos (listingAt x c .contract .multiplier) *ℤ (pos (listingAt x c .contract .reference) *ℤ netOf a c)))
-      +ℤ pos (sumOf (inTo a) vs)) -ℤ pos (sumOf (outOf a) vs))
-      +ℤ sumTo (length (x .listings))
-      (λ c. pos (listingAt x c .contract .multiplier)
-      *ℤ ((pos (sales a c (made vs)) -ℤ pos (costs a c (made vs))) +ℤ pos (settlementPrice found c) *ℤ (netOf a c +ℤ netHolding a c (made vs))))
+      ≡ balanceOf a -ℤ inAll (λ c. pos (listingAt x c .contract .reference) *ℤ netOf a c) +ℤ pos (sumOf (inTo a) vs) -ℤ pos (sumOf (outOf a) vs)
+      +ℤ inAll (λ c. pos (sales a c (made vs))) -ℤ inAll (λ c. pos (costs a c (made vs)))
+      +ℤ inAll (λ c. pos (settlementPrice found c) *ℤ (netOf a c +ℤ netHolding a c (made vs)))
 
   abbrev Net : ℕ → ℕ → Type 0
   Net a c = netIn m′ a c ≡ netOf a c +ℤ netHolding a c (made vs)
@@ -84,13 +94,17 @@ module _ (m n : Memory) (s : Same m n) (cs : List Command) (m′ : Memory) (clai
   said : (P : Exchange → List Move → Type 0) → P (exchangeOf m) (movesOf m cs) → P (exchangeOf n) (movesOf n cs)
   said P p = subst (λ (x : Exchange). P x (movesOf n cs)) (s .in-use) (subst (P (exchangeOf m)) (same-moves m n s cs) p)
 
+  same-ends : (before : List Command) → EndsSettled n cs before → EndsSettled m cs before
+  same-ends before e =
+      record { ends = e .ends; accepted = same-accepted (same-run m n s before) Settle ∙ e .accepted }
+
   pub same-claim : Condition3 (loaded n) n cs m′
-  unfolding paidIn paidOut tradesMade loadedWorth worth
+  unfolding paidIn paidOut tradesMade loadedWorth soldFor costOf atPrices
   same-claim = record {
     together = said (Together m′) (claim .together);
     each = λ before e a l.
         said (λ x vs. Each m′ x vs a (exchangeOf (run n before)))
         (subst (Each m′ (exchangeOf m) (movesOf m cs) a) (same-run m n s before .in-use)
-        (claim .each before (record { ends = e .ends; accepted = same-accepted (same-run m n s before) Settle ∙ e .accepted }) a (rw (s .in-use) l)));
+        (claim .each before (same-ends before e) a (rw (s .in-use) l)));
     net = λ a c l k. said (λ x vs. Net m′ x vs a c) (claim .net a c (rw (s .in-use) l) (rw (s .in-use) k));
   }

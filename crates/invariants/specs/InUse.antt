@@ -8,8 +8,8 @@ use Rattle.rules.specs.Step.{answerOf}
 -- ---- "a refusal gives three zeros and changes nothing"
 
 -- the answer with a code and three zeros, and the memory as it was
-abbrev pub unchanged : Memory → ℕ → AfterCommand
-unchanged m code = record { answer = answerOf code 0 0 0; memory = m }
+abbrev pub refusalIn : Memory → ℕ → AfterCommand
+refusalIn m code = record { answer = answerOf code 0 0 0; memory = m }
 
 -- ---- "Room beyond a count affects no answer"
 

@@ -195,7 +195,7 @@ fn is_short(area: &[u32], c: usize, count: usize, t: Taker, lots: u32) -> bool
     requires { ⌜ Facing t (now area) c count ⌝ }
     ensures { λ r. ⌜ r ≡ ltb (matching.fillable t (queueIn (now (area .entry)) c count)) lots ⌝ }
 {
-    book::scan::fillable(area, c, count, t) < laws::wide64(lots)
+    book::scan::fillable_front(area, c, count, t) < laws::wide64(lots)
 }
 
 // 11: "fill or kill: fillable lots below lots".

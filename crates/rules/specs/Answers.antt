@@ -158,9 +158,9 @@ numbersUsedUp x = leb numbersEnd (x .next)
 abbrev pub stampsUsedUp : Exchange → Bool
 stampsUsedUp x = leb numbersEnd (x .nextstamp)
 
--- 11: "fill or kill: fillable lots below lots"; so many can be filled
+-- 11: "fill or kill: fillable lots below lots"
 abbrev pub killRefused : ℕ → ℕ → TimeCondition → Bool
-killRefused filled lots time = isFillOrKill time && ltb filled lots
+killRefused fillableNow lots time = isFillOrKill time && ltb fillableNow lots
 
 -- 12: "it would make more trades than the day has room for": so many are recorded, so many are needed
 abbrev pub noRoomFor : ℕ → ℕ → Bool
@@ -169,10 +169,11 @@ noRoomFor recorded needed = ltb maxTrades (recorded + needed)
 unfoldable pub tradesRefused : Exchange → ℕ → NewOrder → Bool
 tradesRefused x number o = noRoomFor (length (x .trades)) (tradesNeeded x number o)
 
--- 13: "good for day, own side has 64, fillable lots below lots"; in auction "13 whenever the own side has 64" (02, ticket 4): whether it
--- is in auction, how many orders rest on its own side, how many lots can be filled
+-- 13: "good for day, own side has 64, fillable lots below lots"; in auction "13 whenever the own side has 64" (02, ticket 4). `ownOrders`
+-- are the orders that rest on its own side
 abbrev pub fullRefused : Bool → ℕ → ℕ → ℕ → TimeCondition → Bool
-fullRefused auctioned rest filled lots time = isGoodForDay time && leb maxResting rest && (auctioned || ltb filled lots)
+fullRefused duringAuction ownOrders fillableNow lots time =
+    isGoodForDay time && leb maxResting ownOrders && (duringAuction || ltb fillableNow lots)
 
 -- ---- the refusals of each kind, "Order: 21, 1, then .."
 

@@ -53,9 +53,10 @@ figuresOf x a c =
 -- ---- which lots a close takes: "Closes use start-of-day lots first, then today's in trade order (house)."
 
 -- So a side's lots stand in line, those of the start of the day in front and today's behind them as they were opened, and closes
--- take them from the front. Of m lots from place b on, these are among the n from place a on
-abbrev pub among : ℕ → ℕ → ℕ → ℕ → ℕ
-among b m a n = min (b + m) (a + n) - max b a
+-- take them from the front. Two stretches of that line, each so many lots from a place on, have these lots in common: an open's and a
+-- close's, the lots that the close takes of the open
+abbrev pub overlap : ℕ → ℕ → ℕ → ℕ → ℕ
+overlap openPlace openLots closePlace closeLots = min (openPlace + openLots) (closePlace + closeLots) - max openPlace closePlace
 
 -- Σ over opens or closes, of which the first has its first lot at a place in line: what each adds by its place, price and lots
 unfoldable pub Σover : ℕ → List Batch → (ℕ → ℕ → ℕ → ℤ) → ℤ
@@ -71,15 +72,19 @@ lotsIn batches = sumOf (λ b. b .lots) batches
 -- Σ (sell close price - previous settlement price) x lots + Σ (previous settlement price - buy close price) x lots
 unfoldable pub closedHistory : Figures → ℤ
 closedHistory f =
-    Σover 0 (f .sellCloses) (λ a sold n. (pos sold -ℤ pos (f .previous)) *ℤ pos (among 0 (f .long) a n))
-    +ℤ Σover 0 (f .buyCloses) (λ a bought n. (pos (f .previous) -ℤ pos bought) *ℤ pos (among 0 (f .short) a n))
+    Σover 0 (f .sellCloses) (λ place sold lots. (pos sold -ℤ pos (f .previous)) *ℤ pos (overlap 0 (f .long) place lots))
+    +ℤ Σover 0 (f .buyCloses) (λ place bought lots. (pos (f .previous) -ℤ pos bought) *ℤ pos (overlap 0 (f .short) place lots))
 
 -- 平当日仓盈亏 = Σ [(当日卖出平仓价－当日买入开仓价) × 卖出平仓量] + Σ [(当日卖出开仓价－当日买入平仓价) × 买入平仓量]
 -- Σ (sell close price - buy open price) x lots + Σ (sell open price - buy close price) x lots
 unfoldable pub closedToday : Figures → ℤ
 closedToday f =
-    Σover 0 (f .sellCloses) (λ a sold n. Σover (f .long) (f .buyOpens) (λ b bought m. (pos sold -ℤ pos bought) *ℤ pos (among b m a n)))
-    +ℤ Σover 0 (f .buyCloses) (λ a bought n. Σover (f .short) (f .sellOpens) (λ b sold m. (pos sold -ℤ pos bought) *ℤ pos (among b m a n)))
+    Σover 0 (f .sellCloses)
+    (λ closePlace sold closeLots. Σover (f .long) (f .buyOpens)
+    (λ openPlace bought openLots. (pos sold -ℤ pos bought) *ℤ pos (overlap openPlace openLots closePlace closeLots)))
+    +ℤ Σover 0 (f .buyCloses)
+    (λ closePlace bought closeLots. Σover (f .short) (f .sellOpens)
+    (λ openPlace sold openLots. (pos sold -ℤ pos bought) *ℤ pos (overlap openPlace openLots closePlace closeLots)))
 
 -- ---- (2) 持仓盈亏 = 历史持仓盈亏 + 当日开仓持仓盈亏: holding profit is that on historical lots and that on those opened today, each as far
 -- as no close took them (decision 11)
@@ -88,15 +93,17 @@ closedToday f =
 -- (previous settlement price - the day's) x historical short lots + (the day's - previous settlement price) x historical long lots
 unfoldable pub heldHistory : Figures → ℤ
 heldHistory f =
-    (pos (f .previous) -ℤ pos (f .price)) *ℤ pos (f .short - among 0 (f .short) 0 (lotsIn (f .buyCloses)))
-    +ℤ (pos (f .price) -ℤ pos (f .previous)) *ℤ pos (f .long - among 0 (f .long) 0 (lotsIn (f .sellCloses)))
+    (pos (f .previous) -ℤ pos (f .price)) *ℤ pos (f .short - overlap 0 (f .short) 0 (lotsIn (f .buyCloses)))
+    +ℤ (pos (f .price) -ℤ pos (f .previous)) *ℤ pos (f .long - overlap 0 (f .long) 0 (lotsIn (f .sellCloses)))
 
 -- 当日开仓持仓盈亏 = Σ [(卖出开仓价－当日结算价) × 卖出开仓量] + Σ [(当日结算价－买入开仓价) × 买入开仓量]
 -- Σ (sell open price - the day's settlement price) x lots + Σ (the day's settlement price - buy open price) x lots
 unfoldable pub heldToday : Figures → ℤ
 heldToday f =
-    Σover (f .short) (f .sellOpens) (λ b sold m. (pos sold -ℤ pos (f .price)) *ℤ pos (m - among b m 0 (lotsIn (f .buyCloses))))
-    +ℤ Σover (f .long) (f .buyOpens) (λ b bought m. (pos (f .price) -ℤ pos bought) *ℤ pos (m - among b m 0 (lotsIn (f .sellCloses))))
+    Σover (f .short) (f .sellOpens)
+    (λ place sold lots. (pos sold -ℤ pos (f .price)) *ℤ pos (lots - overlap place lots 0 (lotsIn (f .buyCloses))))
+    +ℤ Σover (f .long) (f .buyOpens)
+    (λ place bought lots. (pos (f .price) -ℤ pos bought) *ℤ pos (lots - overlap place lots 0 (lotsIn (f .sellCloses))))
 
 -- ---- "times multiplier", over all contracts
 

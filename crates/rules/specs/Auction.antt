@@ -143,7 +143,8 @@ auctionMatch contract last buys sells =
     (unmatched buys sells)
 
 -- the match that a change of a contract's state makes: auction is "left only to continuous, when the match happens"; no other
--- change makes one
+-- change makes one. The new state need not be tested: from auction every change but that to continuous is refused (17) before this
+-- is asked (12).
 unfoldable pub matchOf : Exchange → ℕ → Matched
 matchOf x c =
     pick (inAuction (contractAt x c))

@@ -115,8 +115,8 @@ changed phase buys = phaseChanged (asked phase buys) 0 continuous
 bid : List Order
 bid = of (order 1 105 2) 1 0 ∷ []
 
-opened : Effect
-opened = changed auction bid
+auctionLeft : Effect
+auctionLeft = changed auction bid
 
 -- a match of two trades, 7 and 2 lots at 112: buy 9 at 112, sells 7 at 110 and 5 at 112
 deep : Exchange
@@ -216,23 +216,23 @@ table =
     ∷ (length (entered continuous .trades) gives 1)
     ∷ (entered continuous .rested gives 1)
     -- the answer of the state change: no order, the traded lots, none rested; the trade behind those there were
-    ∷ (opened .number gives 0)
-    ∷ (opened .traded gives 1)
+    ∷ (auctionLeft .number gives 0)
+    ∷ (auctionLeft .traded gives 1)
     ∷ (phaseChanged deep 0 continuous .traded gives 9)
-    ∷ (opened .lots gives 0)
-    ∷ (length (after opened .trades) gives 2)
-    ∷ (getD (after opened .trades) 1 noTrade .price gives 101)
-    ∷ (getD (after opened .trades) 1 noTrade .sellclose gives 1)
-    ∷ (after opened .next gives 3)
+    ∷ (auctionLeft .lots gives 0)
+    ∷ (length (after auctionLeft .trades) gives 2)
+    ∷ (getD (after auctionLeft .trades) 1 noTrade .price gives 101)
+    ∷ (getD (after auctionLeft .trades) 1 noTrade .sellclose gives 1)
+    ∷ (after auctionLeft .next gives 3)
     -- the contract: continuous, its last price the auction's; the filled order leaves, what remains stays
-    ∷ (listingAt (after opened) 0 .contract .phase gives 1)
-    ∷ (listingAt (after opened) 0 .contract .last gives 101)
-    ∷ (lotsReaching false 105 (listingAt (after opened) 0 .buys) gives 1)
-    ∷ (length (listingAt (after opened) 0 .sells) gives 0)
+    ∷ (listingAt (after auctionLeft) 0 .contract .phase gives 1)
+    ∷ (listingAt (after auctionLeft) 0 .contract .last gives 101)
+    ∷ (lotsReaching false 105 (listingAt (after auctionLeft) 0 .buys) gives 1)
+    ∷ (length (listingAt (after auctionLeft) 0 .sells) gives 0)
     -- both legs are booked
-    ∷ (holding opened 0 .long gives 2)
-    ∷ (holding opened 0 .short gives 0)
-    ∷ (holding opened 1 .long gives 1)
+    ∷ (holding auctionLeft 0 .long gives 2)
+    ∷ (holding auctionLeft 0 .short gives 0)
+    ∷ (holding auctionLeft 1 .long gives 1)
     -- condition 3 counts the trade: 1 at 101; out of another state there is none, crossed as the book is
     ∷ (tradedLots (counted auction) gives 1)
     ∷ (getD (counted auction) 0 noTrade .price gives 101)
@@ -246,7 +246,7 @@ table =
     ∷ []
 
 pub auction-examples : allRight table ≡ true
-unfolding allRight table order buys001 sells001 buys000 sells000 buysTie sellsTie buysSigned sellsSigned buysApart priceOf lotsOf buyOf sellOf of account listing asked entered changed bid opened deep counted after holding accountAt afterLeg bookLeg bookTrade bookTrades holdingAt listingAt lastPrice sumOf lotsWhere bestPrice stays tradedLots prices lotsReaching volume surplus better bestFrom bestOf chosenPrice auctionPrice tradeAt matchIn matchAt auctionMatch matchOf listingOf takerOf enter meets methodOf middle pairedPrice remainder restIn restLots restWhole restedLots sweep tradePrice tradeWith enteredOf listingMatched exchangeMatched phaseChanged kindOf madeBy
+unfolding allRight table order buys001 sells001 buys000 sells000 buysTie sellsTie buysSigned sellsSigned buysApart priceOf lotsOf buyOf sellOf of account listing asked entered changed bid auctionLeft deep counted after holding accountAt afterLeg bookLeg bookTrade bookTrades holdingAt listingAt lastPrice sumOf lotsWhere bestPrice stays tradedLots prices lotsReaching volume surplus better bestFrom bestOf chosenPrice auctionPrice tradeAt matchIn matchAt auctionMatch matchOf listingOf takerOf enter meets methodOf middle pairedPrice remainder restIn restLots restWhole restedLots sweep tradePrice tradeWith enteredOf listingMatched exchangeMatched phaseChanged kindOf madeBy
 auction-examples = refl
 
 -- "appear after the state command's C line, whose traded field is their lots": C 7 0 0 9 0, then T 2 1 112 7 3 1 and T 3 1 112 2 3 2

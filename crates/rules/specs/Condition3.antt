@@ -11,7 +11,7 @@ use lib.IntN.{ℤ, pos, _+ℤ_, _-ℤ_, _*ℤ_}
 use lib.ListN.{length}
 use Rattle.laws.specs.Choice.{pick}
 use Rattle.laws.specs.Sums.{sumOf, sumTo}
-use Rattle.rules.specs.Exchange.{Exchange, contractAt, holderAt, heldAt}
+use Rattle.rules.specs.Exchange.{contractAt, holderAt, heldAt}
 use Rattle.rules.specs.Kinds.{Move, paysIn, paysOut, makes, settles, nothing, kindOf}
 use Rattle.rules.specs.Memory.{Memory, exchangeOf, respond}
 use Rattle.rules.specs.Settlement.{settlementPrice}
@@ -121,15 +121,28 @@ multiplierIn m c = contractAt (exchangeOf m) c .multiplier
 abbrev pub referenceIn : Memory → ℕ → ℕ
 referenceIn m c = contractAt (exchangeOf m) c .reference
 
--- ---- where a list starts: the money that each account brings, and its net holding by contract
+-- ---- "trades and holdings times the contract's multiplier": the parts of the sum, over all contracts
+
+-- "what its trades sold for", and "what they cost"
+unfoldable pub soldFor : Memory → ℕ → List Trade → ℤ
+soldFor m a ts = sumTo (contractsOf m) (λ c. pos (multiplierIn m c) *ℤ pos (sales a c ts))
+
+unfoldable pub costOf : Memory → ℕ → List Trade → ℤ
+costOf m a ts = sumTo (contractsOf m) (λ c. pos (multiplierIn m c) *ℤ pos (costs a c ts))
+
+-- net holdings at prices, both by contract
+unfoldable pub atPrices : Memory → (ℕ → ℕ) → (ℕ → ℤ) → ℤ
+atPrices m price net = sumTo (contractsOf m) (λ c. pos (multiplierIn m c) *ℤ (pos (price c) *ℤ net c))
+
+-- ---- where a list starts: the money that each account brings, and by account and contract its net holding after trades made since
 
 pub record Start : Type 0 where
   pub money : ℕ → ℤ
-  pub held : ℕ → ℕ → ℤ
+  pub netAfter : ℕ → ℕ → List Trade → ℤ
 
--- "Opening money is the balance in that state."
+-- "Opening money is the balance in that state." Nothing is held, so the net holding is that of the trades.
 abbrev pub opened : Memory → Start
-opened m = record { money = balanceIn m; held = λ a c. pos 0 }
+opened m = record { money = balanceIn m; netAfter = netHolding }
 
 -- a state that opens "without holdings or recorded trades"
 pub record Opening (m : Memory) : Type 0 where
@@ -140,10 +153,10 @@ pub record Opening (m : Memory) : Type 0 where
 -- "for a loaded run, now starts from the loaded balance less the loaded net holding at the loaded reference, times multiplier ..
 -- Its net holding starts from the loaded one" (document 02, ticket 10)
 unfoldable pub loadedWorth : Memory → ℕ → ℤ
-loadedWorth m a = sumTo (contractsOf m) (λ c. pos (multiplierIn m c) *ℤ (pos (referenceIn m c) *ℤ netIn m a c))
+loadedWorth m a = atPrices m (referenceIn m) (netIn m a)
 
 abbrev pub loaded : Memory → Start
-loaded m = record { money = λ a. balanceIn m a -ℤ loadedWorth m a; held = netIn m }
+loaded m = record { money = λ a. balanceIn m a -ℤ loadedWorth m a; netAfter = λ a c ts. netIn m a c +ℤ netHolding a c ts }
 
 -- "its long and short totals are equal, no trades .. exist"
 abbrev pub TotalsEqual : Memory → ℕ → Type 0
@@ -155,17 +168,14 @@ pub record Loaded (m : Memory) : Type 0 where
 
 -- ---- the claim
 
--- "plus what its trades sold for minus what they cost, plus its net holding at that day's settlement price, trades and holdings times the
--- contract's multiplier"; the settlement is that of the state `found`
-unfoldable pub worth : Memory → Exchange → ℕ → List Trade → (ℕ → ℤ) → ℤ
-worth m found a ts net =
-    sumTo (contractsOf m)
-    (λ c. pos (multiplierIn m c) *ℤ ((pos (sales a c ts) -ℤ pos (costs a c ts)) +ℤ pos (settlementPrice found c) *ℤ net c))
-
 -- a list that ends with an accepted settlement, and all before it
 pub record EndsSettled (m : Memory) (cs before : List Command) : Type 0 where
   pub ends : cs ≡ before ++ (Settle ∷ [])
   pub accepted : isAccepted (run m before) Settle ≡ true
+
+-- "that day's settlement price": of the state that the settlement finds
+abbrev pub settledAt : Memory → List Command → ℕ → ℕ
+settledAt m before = settlementPrice (exchangeOf (run m before))
 
 pub record Condition3 (start : Start) (m : Memory) (cs : List Command) (m′ : Memory) : Type 0 where
   -- "all balances together equal the money paid in minus the money paid out, opening money counted as paid in"
@@ -178,12 +188,13 @@ pub record Condition3 (start : Start) (m : Memory) (cs : List Command) (m′ : M
   pub each :
       (before : List Command) → EndsSettled m cs before → (a : ℕ) → a < accountsOf m →
       balanceIn m′ a
-      ≡ ((start .money a +ℤ pos (paidIn a m cs)) -ℤ pos (paidOut a m cs))
-      +ℤ worth m (exchangeOf (run m before)) a (tradesMade m cs) (λ c. start .held a c +ℤ netHolding a c (tradesMade m cs))
+      ≡ start .money a +ℤ pos (paidIn a m cs) -ℤ pos (paidOut a m cs)
+      +ℤ soldFor m a (tradesMade m cs) -ℤ costOf m a (tradesMade m cs)
+      +ℤ atPrices m (settledAt m before) (λ c. start .netAfter a c (tradesMade m cs))
   -- "it equals the engine's long less short"
   pub net :
       (a c : ℕ) → a < accountsOf m → c < contractsOf m →
-      netIn m′ a c ≡ start .held a c +ℤ netHolding a c (tradesMade m cs)
+      netIn m′ a c ≡ start .netAfter a c (tradesMade m cs)
 
 -- CONDITION 3 OF A CALL that carries out the commands cs on the memory m and leaves m′: from a state that opens without holdings,
 -- and from one that was loaded

@@ -5,7 +5,7 @@ use mathlib.Core.List.{List, [], _∷_}
 use mathlib.Core.Path.{_≡_, refl}
 use Prim.Native.Nat.{ℕ, zero, suc, _<_}
 use native.Mathlib.Omega.{arith}
-use lib.IntN.{ℤ, pos, _+ℤ_}
+use lib.IntN.{ℤ, pos, _+ℤ_, _-ℤ_}
 use Rattle.laws.specs.Choice.{all}
 use Rattle.laws.specs.Sums.{sumOf, sumTo}
 use Rattle.laws.specs.Tabulate.{tabulate}
@@ -13,7 +13,7 @@ use Rattle.areas.specs.Records.{decode, records}
 use Rattle.rules.specs.Answers.{dayLimitOrder, listingOf, noSuchOrder, numbered, restingOrder, takerOf}
 use Rattle.rules.specs.Bounds.{preOpen}
 use Rattle.rules.specs.Change.{arriving, changeTrades, gone, isSell, losesPlace, oldOrder, reentered}
-use Rattle.rules.specs.Condition3.{inTo, outOf, paidIn, movesOf, moveOf, isAccepted, sales, costs, bought, sold, netHolding, loadedWorth, loaded, opened, worth, made, madeBy, netIn, tradesMade, Loaded, MoneyKept, TotalsEqual}
+use Rattle.rules.specs.Condition3.{inTo, outOf, paidIn, movesOf, moveOf, isAccepted, sales, costs, bought, sold, netHolding, loadedWorth, loaded, opened, soldFor, costOf, atPrices, Start, made, madeBy, netIn, tradesMade, Loaded, MoneyKept, TotalsEqual}
 use Rattle.rules.specs.Examples.{Row, _gives_, allRight, up, down}
 use Rattle.rules.specs.Exchange.{Exchange, accountAt, bestPrice, contractAt, holdingAt, listingAt}
 use Rattle.rules.specs.Holdings.{afterLeg, bookLeg, bookTrade, bookTrades}
@@ -64,9 +64,11 @@ found : Memory → Exchange
 found m =
     record { listings = exchangeOf m .listings; accounts = exchangeOf m .accounts; trades = day; next = 5; nextstamp = 1; settlements = 0 }
 
--- an account's worth after the day, where its net holding starts from what the memory holds
-worthOf : ℕ → (ℕ → ℤ) → ℕ → ℤ
-worthOf lots held a = worth (start lots) (found (start lots)) a day (λ c. held c +ℤ netHolding a c day)
+-- an account's balance after the day and its settlement, by condition 3's sum
+balanceOf : ℕ → Start → ℕ → ℤ
+balanceOf lots from a =
+    from .money a +ℤ soldFor (start lots) a day -ℤ costOf (start lots) a day
+    +ℤ atPrices (start lots) (settlementPrice (found (start lots))) (λ c. from .netAfter a c day)
 
 -- account 1, a maker, bids for 3 at 99 (number 2); account 2 offers 3 at 102 (number 1)
 market : Exchange
@@ -101,16 +103,19 @@ table =
     ∷ (up (netHolding 1 0 day) gives 1)
     -- the day's B lines: 9,980 and 10,020
     ∷ (up (opened (start 0) .money 0) gives 10_000)
-    ∷ (down (worthOf 0 (opened (start 0) .held 0) 0) gives 20)
-    ∷ (up (worthOf 0 (opened (start 0) .held 1) 1) gives 20)
+    ∷ (up (soldFor (start 0) 0 day) gives 3_060)
+    ∷ (up (costOf (start 0) 0 day) gives 2_060)
+    ∷ (down (atPrices (start 0) (settlementPrice (found (start 0))) (λ c. netHolding 0 c day)) gives 1_020)
+    ∷ (up (balanceOf 0 (opened (start 0)) 0) gives 9_980)
+    ∷ (up (balanceOf 0 (opened (start 0)) 1) gives 10_020)
     -- loaded with 3 long and 3 short at the reference, 100: 3,000 are taken off the first balance, and put on the second
     ∷ (up (loadedWorth (start 3) 0) gives 3_000)
     ∷ (down (loadedWorth (start 3) 1) gives 3_000)
     ∷ (up (loaded (start 3) .money 0) gives 7_000)
     ∷ (up (loaded (start 3) .money 1) gives 13_000)
     -- 2 long lots are left and 2 short ones: 10,040 and 9,960 after the settlement
-    ∷ (up (worthOf 3 (loaded (start 3) .held 0) 0) gives 3_040)
-    ∷ (down (worthOf 3 (loaded (start 3) .held 1) 1) gives 3_040)
+    ∷ (up (balanceOf 3 (loaded (start 3)) 0) gives 10_040)
+    ∷ (up (balanceOf 3 (loaded (start 3)) 1) gives 9_960)
     -- a payment is one account's, and in or out
     ∷ (inTo 0 (paysIn 0 5) gives 5)
     ∷ (inTo 1 (paysIn 0 5) gives 0)
@@ -132,7 +137,7 @@ table =
     ∷ []
 
 pub condition-3-examples : allRight table ≡ true
-unfolding allRight table account holding start trade day found worthOf market boughtBy up down sumOf sumTo tabulate all decode records inTo outOf paidIn movesOf moveOf isAccepted kindOf respond wellFormedMemory countsInRange hasRoom sales costs bought sold netHolding loadedWorth worth accountAt afterLeg arriving bestPrice bookLeg bookTrade bookTrades changeTrades enter enteredOf exchangeAfter gone half holdingAt isSell lastPrice listingAfter listingAt listingOf losesPlace madeBy meets methodOf middle noSuchOrder numbered oldOrder pairedPrice quoteTrades reentered remainder restIn restLots restedLots restingOrder stays sweep takerOf tradePrice tradeWith tradedLots withBuy without withoutQuote exchangeOf listingIn queueIn recordedTrades priceFrom settlementPrice tradedValue tradesIn weightedPrice
+unfolding allRight table account holding start trade day found balanceOf market boughtBy up down sumOf sumTo tabulate all decode records inTo outOf paidIn movesOf moveOf isAccepted kindOf respond wellFormedMemory countsInRange hasRoom sales costs bought sold netHolding loadedWorth soldFor costOf atPrices accountAt afterLeg arriving bestPrice bookLeg bookTrade bookTrades changeTrades enter enteredOf exchangeAfter gone half holdingAt isSell lastPrice listingAfter listingAt listingOf losesPlace madeBy meets methodOf middle noSuchOrder numbered oldOrder pairedPrice quoteTrades reentered remainder restIn restLots restedLots restingOrder stays sweep takerOf tradePrice tradeWith tradedLots withBuy without withoutQuote exchangeOf listingIn queueIn recordedTrades priceFrom settlementPrice tradedValue tradesIn weightedPrice
 condition-3-examples = refl
 
 -- ---- where a list starts. A state loaded with 3 long lots and 3 short ones is a loaded state, not an opening; with 3 and 2 it is none

@@ -43,15 +43,15 @@ abbrev pub newline : ℕ
 newline = 10
 
 -- the digit 0; the others follow it
-abbrev pub nought : ℕ
-nought = 48
+abbrev pub digitZero : ℕ
+digitZero = 48
 
 -- ---- numbers
 
 -- the digits of n, at most `places` of them
 unfoldable pub digits : ℕ → ℕ → List ℕ
 digits zero n = []
-digits (suc places) n = pick (ltb n 10) ((nought + n) ∷ []) (digits places (n / 10) ++ ((nought + n % 10) ∷ []))
+digits (suc places) n = pick (ltb n 10) ((digitZero + n) ∷ []) (digits places (n / 10) ++ ((digitZero + n % 10) ∷ []))
 
 -- twenty digits hold every number of 64 bits
 abbrev pub digitsMost : ℕ
@@ -124,7 +124,7 @@ runLines k x (c ∷ cs) = stepLines k x c ++ runLines (k + 1) (step x c) cs
 
 -- "A broken file prints `X 20`."
 abbrev pub brokenLine : List ℕ
-brokenLine = letterX ∷ space ∷ (nought + 2) ∷ nought ∷ newline ∷ []
+brokenLine = letterX ∷ space ∷ (digitZero + 2) ∷ digitZero ∷ newline ∷ []
 
 unfoldable pub output : List ℕ → List ℕ
 output file = pick (sound file) (runLines 1 (opening file) (commandsOf file)) brokenLine

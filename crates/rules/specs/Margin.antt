@@ -29,7 +29,8 @@ chargedTo x a (suc c) = chargedTo x a c + charge (listingAt x c .contract) * cha
 abbrev pub charged : Exchange → ℕ → ℕ
 charged x a = chargedTo x a (length (x .listings))
 
--- the state with an open's lots included, as though the account held them already: a buy's are long, a sell's short
+-- the state with an open's lots booked, as though the account held them already: a buy's are long, a sell's short. An open that rests
+-- is charged the same, since lots held and lots that rest are added up.
 abbrev pub withOpen : Exchange → ℕ → ℕ → Bool → ℕ → Exchange
 withOpen x a c sell lots =
     record { listings = x .listings; accounts = bookLeg (x .accounts) a c sell 0 lots; trades = x .trades; next = x .next; nextstamp = x .nextstamp; settlements = x .settlements }

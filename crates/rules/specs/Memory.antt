@@ -143,19 +143,21 @@ exchangeOf m =
     }
 
 -- ---- "Room beyond a count .. is unaltered, except that places newly in use are written, and places no longer in use are
--- set to zero." What that leaves at each place is one law: `put-told` (invariants, proofs/PutTold, in the words of specs/ByPlace).
+-- set to zero." What that leaves at each place is one law: `put-by-place` (invariants, proofs/StepByPlace, in the words of
+-- specs/ByPlace).
 
--- contract c's queue written over one of n orders
+-- contract c's queue written over one of `before` orders
 unfoldable pub putQueue : List ℕ → ℕ → ℕ → List Order → List ℕ
-putQueue area c n queue = store orderWords area (queueStride * c) (padded n noOrder queue)
+putQueue area c before queue = store orderWords area (queueStride * c) (padded before noOrder queue)
 
 -- the queues of the contracts below c, each over one of as many orders as its count says
 unfoldable pub putQueues : List ℕ → List ℕ → (ℕ → List Order) → ℕ → List ℕ
 putQueues area counts queues zero = area
 putQueues area counts queues (suc c) = putQueue (putQueues area counts queues c) c (getD counts c 0) (queues c)
 
+-- the day's trades written over `before` of them
 unfoldable pub putTrades : List ℕ → ℕ → List Trade → List ℕ
-putTrades area n trades = store tradeWords area 0 (padded n noTrade trades)
+putTrades area before trades = store tradeWords area 0 (padded before noTrade trades)
 
 -- values in the first places of a list, the rest as it was
 abbrev pub putFirst : {A : Type 0} → List A → List A → List A

@@ -105,14 +105,14 @@ unfoldable pub otherLots : ℕ → List Batch → List Batch
 otherLots n [] = []
 otherLots n (b ∷ bs) = record { price = b .price; lots = b .lots - n } ∷ otherLots (n - b .lots) bs
 
-abbrev pub opened : List Batch → ℕ → ℕ → List Batch
-opened bs p n = bs ++ (record { price = p; lots = n } ∷ [])
+abbrev pub withBatch : List Batch → ℕ → ℕ → List Batch
+withBatch bs p n = bs ++ (record { price = p; lots = n } ∷ [])
 
 -- an open adds lots at its price; a sell close pays its price less theirs for the long lots that it takes, a buy close
 -- theirs less its price for the short lots
 unfoldable pub afterDayLeg : Day → Leg → Day
-afterDayLeg d (leg false false p n) = record { long = opened (d .long) p n; short = d .short; closing = d .closing }
-afterDayLeg d (leg true false p n) = record { long = d .long; short = opened (d .short) p n; closing = d .closing }
+afterDayLeg d (leg false false p n) = record { long = withBatch (d .long) p n; short = d .short; closing = d .closing }
+afterDayLeg d (leg true false p n) = record { long = d .long; short = withBatch (d .short) p n; closing = d .closing }
 afterDayLeg d (leg true true p n) =
     record { long = otherLots n (d .long); short = d .short; closing = d .closing +ℤ gain p (firstLots n (d .long)) }
 afterDayLeg d (leg false true p n) =

@@ -22,7 +22,7 @@ use Rattle.dayfile.specs.Opening.{accountWith, openingAccounts, openingContract
 use Rattle.dayfile.proofs.Places.{sound-layout}
 use Rattle.dayfile.proofs.Start.{opening-exchange}
 use Rattle.dayfile.proofs.WellFormed.{opening-memory-well-formed}
-use Rattle.runner.specs.Output.{Ready}
+use Rattle.runner.specs.Output.{FileReady}
 
 -- what holds of a table's values, and of what stands past its end, holds at each place
 every-place : {A : Type 0} (P : A → Type 0) (n : ℕ) (f : ℕ → A) (d : A) → P d → ((i : ℕ) → P (f i)) → (i : ℕ) → P (getD (tabulate n f) i d)
@@ -61,7 +61,7 @@ module _ (file : List ℕ) where
               (λ i. refl) refl a (rw length-tabulate (omega arith));
         }
 
-  module _ {buys sells trades : List ℕ} (ready : Ready file buys sells trades) where
+  module _ {buys sells trades : List ℕ} (ready : FileReady file buys sells trades) where
     abbrev m : Memory
     m = openingMemory file buys sells trades
 

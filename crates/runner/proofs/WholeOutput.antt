@@ -26,7 +26,7 @@ use Rattle.dayfile.specs.Opening.{openingMemory}
 use Rattle.dayfile.proofs.Start.{opening-exchange}
 use Rattle.invariants.proofs.Condition3.{money-left}
 use Rattle.invariants.proofs.MemoryKeeps.{run-keeps}
-use Rattle.runner.specs.Output.{Asked, Call, LinesIs, PartIs, Ready, linesRefusals, outputFrom, playedIn, together, untouched}
+use Rattle.runner.specs.Output.{Asked, Call, FileReady, LinesIs, PartIs, linesRefusals, outputFrom, playedIn, together, untouched}
 use Rattle.runner.specs.Parts.{part, Playable, PlayedIs}
 use Rattle.runner.specs.Turns.{commandMost}
 use Rattle.runner.specs.declared.output.Printed.{Printed}
@@ -260,7 +260,7 @@ parts-are-the-output file buys sells trades cs a =
     all-parts file 0 (memory (openedFrom file .state) buys sells trades) cs a ∙ from-start file buys sells trades
 
 -- no call is refused whose buffer has room: a sound file opens on a well-formed state where the areas have room, and each part leaves one
-pub opens-playable : {file buys sells trades : List ℕ} → Ready file buys sells trades → wellFormedMemory (openingMemory file buys sells trades) ≡ true
+pub opens-playable : {file buys sells trades : List ℕ} → FileReady file buys sells trades → wellFormedMemory (openingMemory file buys sells trades) ≡ true
 opens-playable {file} ready = opens-formed file ready .formed
 
 and-false : (b : Bool) → (b && false) ≡ false

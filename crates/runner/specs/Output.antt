@@ -84,7 +84,7 @@ together [] = []
 together (c ∷ cs) = take (c .given .length) (c .written) ++ together cs
 
 -- a sound file, room for the queues of four contracts and for a day's trades; what stands in that room plays no part
-pub record Ready (file buys sells trades : List ℕ) : Type 0 where
+pub record FileReady (file buys sells trades : List ℕ) : Type 0 where
   pub whole : sound file ≡ true
   pub buys-room : queuesWords ≤ length buys
   pub sells-room : queuesWords ≤ length sells

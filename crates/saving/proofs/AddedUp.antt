@@ -1,4 +1,4 @@
--- A contract's long and short lots added up, account by account, and a state's contracts found asleep one by one. Assumes nothing.
+-- A contract's long and short lots added up, account by account, and a state's contracts found in pre-open without orders one by one. Assumes nothing.
 use mathlib.Core.Bool.{Bool, true, false, _&&_}
 use mathlib.Core.List.{List}
 use mathlib.Core.Path.{_≡_, refl, sym, ap, ap₂, _∙_}
@@ -13,7 +13,7 @@ use Rattle.rules.specs.Exchange.{noAccount, noContract, noHolding}
 use Rattle.rules.specs.declared.Account.{Account}
 use Rattle.rules.specs.declared.State.{State}
 use Rattle.statefile.specs.StateFile.{totalsEqual}
-use Rattle.saving.specs.Parts.{asleepAt, stateWritable}
+use Rattle.saving.specs.Parts.{emptyPreOpenAt, stateWritable}
 
 module _ (list : List Account) (accounts c : ℕ) where
   abbrev longOf : Account → ℕ
@@ -64,39 +64,39 @@ module _ (s : State) (c : ℕ) where
   abbrev sells : ℕ
   sells = getD (s .sellcounts) c 0
 
-  pub not-pre-open : (phase ≡ 0 → ⊥) → asleepAt s c ≡ false
+  pub not-pre-open : (phase ≡ 0 → ⊥) → emptyPreOpenAt s c ≡ false
   not-pre-open d = false-both (eqb phase 0 && eqb buys 0) (eqb sells 0) (false-both (eqb phase 0) (eqb buys 0) (ne-eqb phase 0 d))
 
-  pub some-buys : (buys ≡ 0 → ⊥) → asleepAt s c ≡ false
+  pub some-buys : (buys ≡ 0 → ⊥) → emptyPreOpenAt s c ≡ false
   some-buys d = false-both (eqb phase 0 && eqb buys 0) (eqb sells 0) (both-false (eqb phase 0) (eqb buys 0) (ne-eqb buys 0 d))
 
-  pub some-sells : (sells ≡ 0 → ⊥) → asleepAt s c ≡ false
+  pub some-sells : (sells ≡ 0 → ⊥) → emptyPreOpenAt s c ≡ false
   some-sells d = both-false (eqb phase 0 && eqb buys 0) (eqb sells 0) (ne-eqb sells 0 d)
 
-  pub is-asleep : phase ≡ 0 → buys ≡ 0 → sells ≡ 0 → asleepAt s c ≡ true
-  is-asleep e f g = rw (eq-eqb phase 0 e, eq-eqb buys 0 f, eq-eqb sells 0 g)
+  pub is-empty : phase ≡ 0 → buys ≡ 0 → sells ≡ 0 → emptyPreOpenAt s c ≡ true
+  is-empty e f g = rw (eq-eqb phase 0 e, eq-eqb buys 0 f, eq-eqb sells 0 g)
 
 -- ---- a state that may be written
 
 module _ (s : State) where
-  abbrev asleepAll : Bool
-  asleepAll = all (asleepAt s) (s .contractcount)
+  abbrev allEmpty : Bool
+  allEmpty = all (emptyPreOpenAt s) (s .contractcount)
 
   abbrev equalAll : Bool
   equalAll = all (totalsEqual (take (s .accountcount) (s .accounts))) (s .contractcount)
 
-  pub not-asleep : asleepAll ≡ false → false ≡ stateWritable s
+  pub not-empty : allEmpty ≡ false → false ≡ stateWritable s
   unfolding stateWritable
-  not-asleep h = rw h
+  not-empty h = rw h
 
   pub not-equal : equalAll ≡ false → false ≡ stateWritable s
   unfolding stateWritable
   not-equal h =
-      sym (false-both (asleepAll && equalAll && eqb (s .tradecount) 0 && eqb (s .next) 1) (eqb (s .nextstamp) 1)
-      (false-both (asleepAll && equalAll && eqb (s .tradecount) 0) (eqb (s .next) 1)
-      (false-both (asleepAll && equalAll) (eqb (s .tradecount) 0) (both-false asleepAll equalAll h))))
+      sym (false-both (allEmpty && equalAll && eqb (s .tradecount) 0 && eqb (s .next) 1) (eqb (s .nextstamp) 1)
+      (false-both (allEmpty && equalAll && eqb (s .tradecount) 0) (eqb (s .next) 1)
+      (false-both (allEmpty && equalAll) (eqb (s .tradecount) 0) (both-false allEmpty equalAll h))))
 
-  module _ (e : asleepAll ≡ true) (f : equalAll ≡ true) where
+  module _ (e : allEmpty ≡ true) (f : equalAll ≡ true) where
     pub some-trades : (s .tradecount ≡ 0 → ⊥) → false ≡ stateWritable s
     unfolding stateWritable
     some-trades d = rw (e, f, ne-eqb (s .tradecount) 0 d)

@@ -14,8 +14,8 @@ use Rattle.rules.specs.WellFormed.{wellFormedContents}
 use Rattle.rules.specs.declared.Account.{Account}
 use Rattle.rules.specs.declared.State.{State}
 use Rattle.invariants.proofs.MemoryRoom.{room-test}
-use Rattle.statefile.specs.StateFile.{ReadIs, accountsIn, allEqual, loadedFrom, loadedInto, loadedState, markSound, readCode, savedSound, shaped, totalsEqual}
-use Rattle.statefile.proofs.Again.{loaded-accounts, loaded-asleep, loaded-contracts, loaded-places, loaded-start, shape}
+use Rattle.statefile.specs.StateFile.{ReadIs, allEqual, loadedFrom, loadedInto, loadedState, markSound, readCode, savedAccountsIn, savedSound, shaped, totalsEqual}
+use Rattle.statefile.proofs.Again.{loaded-accounts, loaded-empty, loaded-contracts, loaded-places, loaded-start, shape}
 use Rattle.statefile.proofs.Fields.{nothing-in}
 use Rattle.statefile.proofs.Loaded.{Loadable, loaded-counts, loaded-in-use}
 use Rattle.saving.specs.Parts.{Laid, inSpare, spare}
@@ -41,7 +41,7 @@ module _ (m : Memory) (bs : List ℕ) where
   unfolding savedSound
   misshapen-20 h = unsound (rw h)
 
-  marks-at : {c a : ℕ} → Laid bs c a → all (markSound bs) (accountsIn bs) ≡ all (markSound bs) a
+  marks-at : {c a : ℕ} → Laid bs c a → all (markSound bs) (savedAccountsIn bs) ≡ all (markSound bs) a
   marks-at l = ap (all (markSound bs)) (sym (l .accounts-are))
 
   pub marks-20 : {c a : ℕ} → shaped bs ≡ true → Laid bs c a → all (markSound bs) a ≡ false → ReadIs m bs 20 (m .state)
@@ -56,7 +56,7 @@ module _ {m : Memory} {bs : List ℕ} {c a : ℕ} {next : State} (g : Given m bs
         contracts = rw (loaded-contracts bs) (p .contracts);
         accounts = rw (loaded-accounts bs) (p .accounts);
         places = loaded-places bs;
-        asleep-all = loaded-asleep bs;
+        empty-all = loaded-empty bs;
         no-trades = nothing-in (loadedFrom bs .trades) (rw (loaded-start bs .0));
       }
 

@@ -21,8 +21,8 @@ use Rattle.invariants.proofs.Clauses.{well-formed}
 use Rattle.invariants.proofs.MemoryRoom.{CountsOk, memory-ok}
 use Rattle.sections.specs.Sections.{holdingBytes, holdingsBytes, inRow}
 use Rattle.sections.proofs.Rows.{row-ext}
-use Rattle.statefile.specs.StateFile.{accountBytes, allEqual, asleep, contractBytes, rowBytes, savedBytes, totalsEqual, writable}
-use Rattle.saving.specs.Parts.{Short, accountRow, asleepAt, contractRow, stateBytes, stateWritable}
+use Rattle.statefile.specs.StateFile.{accountBytes, allEqual, contractBytes, emptyPreOpen, rowBytes, savedBytes, totalsEqual, writable}
+use Rattle.saving.specs.Parts.{Short, accountRow, contractRow, emptyPreOpenAt, stateBytes, stateWritable}
 
 -- ---- the words of a list of records, one after the other
 
@@ -124,17 +124,17 @@ module _ (m : Memory) (d : Declared (m .state)) (w : wellFormedMemory m ≡ true
 
   -- ---- whether it may be written
 
-  asleep-at : (i : ℕ) → i < c → asleep (getD (exchangeOf m .listings) i noListing) ≡ asleepAt (m .state) i
-  unfolding listingAt listingIn asleep
-  asleep-at i l =
-      ap asleep (listing-in-use m i l)
+  empty-at : (i : ℕ) → i < c → emptyPreOpen (getD (exchangeOf m .listings) i noListing) ≡ emptyPreOpenAt (m .state) i
+  unfolding listingAt listingIn emptyPreOpen
+  empty-at i l =
+      ap emptyPreOpen (listing-in-use m i l)
       ∙ rw (length-queue (m .buys) i (getD (m .state .buycounts) i 0), length-queue (m .sells) i (getD (m .state .sellcounts) i 0))
 
-  asleep-is : allOf asleep (exchangeOf m .listings) ≡ all (asleepAt (m .state)) c
-  asleep-is =
-      allOf-all asleep (exchangeOf m .listings) noListing
-      ∙ ap (all (λ i. asleep (getD (exchangeOf m .listings) i noListing))) (contracts-in-use m)
-      ∙ all-ext _ (asleepAt (m .state)) c asleep-at
+  empty-is : allOf emptyPreOpen (exchangeOf m .listings) ≡ all (emptyPreOpenAt (m .state)) c
+  empty-is =
+      allOf-all emptyPreOpen (exchangeOf m .listings) noListing
+      ∙ ap (all (λ i. emptyPreOpen (getD (exchangeOf m .listings) i noListing))) (contracts-in-use m)
+      ∙ all-ext _ (emptyPreOpenAt (m .state)) c empty-at
 
   equal-is : allEqual (exchangeOf m) ≡ all (totalsEqual (take a (m .state .accounts))) c
   unfolding allEqual exchangeOf
@@ -150,7 +150,7 @@ module _ (m : Memory) (d : Declared (m .state)) (w : wellFormedMemory m ≡ true
 
   pub writable-is : writable (exchangeOf m) ≡ stateWritable (m .state)
   unfolding writable stateWritable
-  writable-is = rw (asleep-is, equal-is, trades-are, numbers-are .0, numbers-are .1)
+  writable-is = rw (empty-is, equal-is, trades-are, numbers-are .0, numbers-are .1)
 
   -- ---- multiplier and tick are small
 

@@ -7,7 +7,7 @@ use native.Mathlib.Omega.{arith}
 use lib.IntN.{ℤ}
 use lib.ListN.{length, getD}
 use Rattle.laws.specs.Tabulate.{tabulate, length-tabulate, map-tabulate}
-use Rattle.laws.specs.Written.{written}
+use Rattle.laws.specs.Written.{overwritten}
 use Rattle.rules.specs.Bounds.{maxAccounts, maxContracts}
 use Rattle.rules.specs.DayFile.{contractsIn, u8At, u32At, u64At, countWidth}
 use Rattle.rules.specs.Exchange.{noAccount}
@@ -17,20 +17,20 @@ use Rattle.rules.specs.declared.Contract.{Contract}
 use Rattle.rules.specs.declared.Holding.{Holding}
 use Rattle.rules.specs.declared.State.{State}
 use Rattle.endian.specs.Numbers.{signedOf}
-use Rattle.settlement.proofs.Places.{written-accounts, written-first}
+use Rattle.settlement.proofs.Places.{overwritten-accounts, overwritten-first}
 use Rattle.sections.specs.Sections.{holdingWidth}
-use Rattle.statefile.specs.StateFile.{accountPlace, accountsIn, contractPlace, loadedAccount, loadedFrom, loadedListing, loadedState, rowPlace, savedAccount, savedContract, savedHolding, settlementsPlace, balanceWidth, savedAccountWidth, savedContractWidth, settlementsWidth}
+use Rattle.statefile.specs.StateFile.{savedAccountPlace, savedAccountsIn, savedContractPlace, loadedAccount, loadedFrom, loadedListing, loadedState, rowPlace, savedAccount, savedContract, savedHolding, settlementsPlace, balanceWidth, savedAccountWidth, savedContractWidth, settlementsWidth}
 use Rattle.saving.specs.Parts.{Laid}
 use Rattle.saving.proofs.Shapes.{few-bytes}
 
 -- ---- one account
 
 pub account-made : (bs : List ℕ) (n at row : ℕ) (room : Account) {z : ℤ} {m : ℕ} {hs : List Holding} → z ≡ signedOf (u64At bs at) → m ≡ u8At bs (at + balanceWidth)
-    → hs ≡ written (λ c. savedHolding bs (row + holdingWidth * c)) (room .holdings) n
+    → hs ≡ overwritten (λ c. savedHolding bs (row + holdingWidth * c)) (room .holdings) n
     → record { balance = z; maker = m; holdings = hs } ≡ putAccount (savedAccount bs n at row) room
 unfolding savedAccount
 account-made bs n at row room e f g =
-    let h = g ∙ sym (written-first (λ c. savedHolding bs (row + holdingWidth * c)) (room .holdings) n) in
+    let h = g ∙ sym (overwritten-first (λ c. savedHolding bs (row + holdingWidth * c)) (room .holdings) n) in
     λ i. record { balance = e i; maker = f i; holdings = h i }
 
 -- ---- all of them
@@ -60,7 +60,7 @@ module _ (bs : List ℕ) (c a : ℕ) (l : Laid bs c a) (i : ℕ) (h : i < a) whe
       → savedAccount bs c (first + savedAccountWidth * i) (rows + width * i) ≡ loadedAccount bs i
   unfolding loadedAccount
   account-placed first rows width e f g =
-      let p : first + savedAccountWidth * i ≡ accountPlace c i = omega arith in
+      let p : first + savedAccountWidth * i ≡ savedAccountPlace c i = omega arith in
       let q : rows + width * i ≡ rowPlace c a i = rw g (omega arith) in
       ap₂ (λ (x y : ℕ). savedAccount bs c x y) p q ∙ rw (l .contracts-are, l .accounts-are)
 
@@ -72,12 +72,12 @@ module _ (bs : List ℕ) (c a : ℕ) (l : Laid bs c a) (i : ℕ) (h : i < a) whe
 
 module _ (s : State) (bs : List ℕ) (c a : ℕ) (l : Laid bs c a) where
   contracts-over : putFirst (map (λ n. n .contract) (loadedFrom bs .listings)) (s .contracts)
-      ≡ written (λ i. savedContract bs (contractPlace i)) (s .contracts) c
+      ≡ overwritten (λ i. savedContract bs (savedContractPlace i)) (s .contracts) c
   unfolding loadedFrom loadedListing
   contracts-over =
       ap (λ (vs : List Contract). putFirst vs (s .contracts)) (map-tabulate (λ n. n .contract) (contractsIn bs) (loadedListing bs))
-      ∙ written-first (λ i. savedContract bs (contractPlace i)) (s .contracts) (contractsIn bs)
-      ∙ ap (written (λ i. savedContract bs (contractPlace i)) (s .contracts)) (sym (l .contracts-are))
+      ∙ overwritten-first (λ i. savedContract bs (savedContractPlace i)) (s .contracts) (contractsIn bs)
+      ∙ ap (overwritten (λ i. savedContract bs (savedContractPlace i)) (s .contracts)) (sym (l .contracts-are))
 
   no-buys : (places : List ℕ) → putFirst (map (λ n. length (n .buys)) (loadedFrom bs .listings)) places ≡ putFirst (tabulate c (λ i. 0)) places
   unfolding loadedFrom loadedListing
@@ -90,11 +90,11 @@ module _ (s : State) (bs : List ℕ) (c a : ℕ) (l : Laid bs c a) where
       ap (λ (vs : List ℕ). putFirst vs places) (map-tabulate (λ n. length (n .sells)) (contractsIn bs) (loadedListing bs) ∙ ap (λ (n : ℕ). tabulate n (λ i. 0)) (sym (l .contracts-are)))
 
   accounts-over : a ≤ length (s .accounts) → putAccounts (loadedFrom bs .accounts) (s .accounts)
-      ≡ written (λ i. putAccount (loadedAccount bs i) (getD (s .accounts) i noAccount)) (s .accounts) a
+      ≡ overwritten (λ i. putAccount (loadedAccount bs i) (getD (s .accounts) i noAccount)) (s .accounts) a
   unfolding loadedFrom
   accounts-over h =
       ap (λ (n : ℕ). putAccounts (tabulate n (loadedAccount bs)) (s .accounts)) (sym (l .accounts-are))
-      ∙ written-accounts (loadedAccount bs) (s .accounts) a h
+      ∙ overwritten-accounts (loadedAccount bs) (s .accounts) a h
 
   contract-count : length (loadedFrom bs .listings) ≡ c
   unfolding loadedFrom
@@ -102,7 +102,7 @@ module _ (s : State) (bs : List ℕ) (c a : ℕ) (l : Laid bs c a) where
 
   account-count : length (loadedFrom bs .accounts) ≡ a
   unfolding loadedFrom
-  account-count = length-tabulate (accountsIn bs) (loadedAccount bs) ∙ sym (l .accounts-are)
+  account-count = length-tabulate (savedAccountsIn bs) (loadedAccount bs) ∙ sym (l .accounts-are)
 
   settlements-at : loadedFrom bs .settlements ≡ u32At bs (length bs - settlementsWidth)
   unfolding loadedFrom
@@ -111,8 +111,8 @@ module _ (s : State) (bs : List ℕ) (c a : ℕ) (l : Laid bs c a) where
       sym (ap (u32At bs) (p ∙ rw (l .contracts-are, l .accounts-are)))
 
   module _ {terms : List Contract} {accounts : List Account} {buycounts sellcounts : List ℕ} {settlements : ℕ} where
-    pub state-made : a ≤ length (s .accounts) → terms ≡ written (λ i. savedContract bs (contractPlace i)) (s .contracts) c
-        → accounts ≡ written (λ i. putAccount (loadedAccount bs i) (getD (s .accounts) i noAccount)) (s .accounts) a
+    pub state-made : a ≤ length (s .accounts) → terms ≡ overwritten (λ i. savedContract bs (savedContractPlace i)) (s .contracts) c
+        → accounts ≡ overwritten (λ i. putAccount (loadedAccount bs i) (getD (s .accounts) i noAccount)) (s .accounts) a
         → buycounts ≡ putFirst (tabulate c (λ i. 0)) (s .buycounts) → sellcounts ≡ putFirst (tabulate c (λ i. 0)) (s .sellcounts) → settlements ≡ u32At bs (length bs - settlementsWidth)
         → record {
           contracts = terms;

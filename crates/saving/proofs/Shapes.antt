@@ -13,7 +13,7 @@ use Rattle.rules.specs.Bounds.{maxAccounts, maxContracts}
 use Rattle.rules.specs.DayFile.{contractsIn, u8At, u32At, countWidth}
 use Rattle.rules.proofs.Terms.{within-high, within-low, within-test}
 use Rattle.sections.specs.Sections.{holdingWidth}
-use Rattle.statefile.specs.StateFile.{accountPlace, accountsIn, countsRight, markSound, rowPlace, settlementsPlace, shaped, balanceWidth, savedAccountWidth, savedContractWidth, settlementsWidth}
+use Rattle.statefile.specs.StateFile.{savedAccountPlace, savedAccountsIn, countsRight, markSound, rowPlace, settlementsPlace, shaped, balanceWidth, savedAccountWidth, savedContractWidth, settlementsWidth}
 use Rattle.dayfile.specs.FileHead.{countBefore}
 use Rattle.dayfile.proofs.Counts.{counted, uncounted}
 use Rattle.dayfile.proofs.Places.{contracts-are, contracts-read}
@@ -28,9 +28,9 @@ few-bytes contracts accounts h k = let p : holdingWidth * contracts ≤ holdingW
 pub record Lengths (bs : List ℕ) : Type 0 where
   pub some-contract : 1 ≤ contractsIn bs
   pub few-contracts : contractsIn bs ≤ maxContracts
-  pub some-account : 1 ≤ accountsIn bs
-  pub few-accounts : accountsIn bs ≤ maxAccounts
-  pub ends : length bs ≡ settlementsPlace (contractsIn bs) (accountsIn bs) + settlementsWidth
+  pub some-account : 1 ≤ savedAccountsIn bs
+  pub few-accounts : savedAccountsIn bs ≤ maxAccounts
+  pub ends : length bs ≡ settlementsPlace (contractsIn bs) (savedAccountsIn bs) + settlementsWidth
 
 lengths : (bs : List ℕ) → shaped bs ≡ true → Lengths bs
 lengths bs h =
@@ -38,8 +38,8 @@ lengths bs h =
     record {
       some-contract = within-low 1 maxContracts (contractsIn bs) (s .contracts);
       few-contracts = within-high 1 maxContracts (contractsIn bs) (s .contracts);
-      some-account = within-low 1 maxAccounts (accountsIn bs) (s .accounts);
-      few-accounts = within-high 1 maxAccounts (accountsIn bs) (s .accounts);
+      some-account = within-low 1 maxAccounts (savedAccountsIn bs) (s .accounts);
+      few-accounts = within-high 1 maxAccounts (savedAccountsIn bs) (s .accounts);
       ends = s .ends;
     }
 
@@ -56,8 +56,8 @@ unfolding shaped
 counts-decide bs l =
     rw (
       within-test 1 maxContracts (contractsIn bs) (l .some-contract) (l .few-contracts),
-      within-test 1 maxAccounts (accountsIn bs) (l .some-account) (l .few-accounts),
-      eq-eqb (length bs) (settlementsPlace (contractsIn bs) (accountsIn bs) + settlementsWidth) (l .ends),
+      within-test 1 maxAccounts (savedAccountsIn bs) (l .some-account) (l .few-accounts),
+      eq-eqb (length bs) (settlementsPlace (contractsIn bs) (savedAccountsIn bs) + settlementsWidth) (l .ends),
     )
 
 -- ---- the counts as the code reads them
@@ -67,21 +67,21 @@ module _ (bs : List ℕ) {c : ℕ} (ec : c ≡ countBefore bs 4 4) where
   no-contracts z = sym (misshapen bs (λ l. uncounted bs 4 4 ec z (omega (arith, l .ends)) (omega (arith, l .some-contract, contracts-read bs)) (omega (arith, l .few-contracts, contracts-read bs))))
 
   module _ (some : c ≡ 0 → ⊥) {end a : ℕ} (is : end ≡ 8 + 24 * c) (ea : a ≡ countBefore bs end 32) where
-    count-there : u32At bs (end - 4) ≡ accountsIn bs
-    unfolding accountsIn
+    count-there : u32At bs (end - 4) ≡ savedAccountsIn bs
+    unfolding savedAccountsIn
     count-there = ap (u32At bs) (omega (arith, contracts-are bs ec some))
 
     pub no-accounts : a ≡ 0 → false ≡ shaped bs
     no-accounts z =
         sym (misshapen bs (λ l. uncounted bs end 32 ea z (omega (arith, l .ends, contracts-are bs ec some)) (omega (arith, l .some-account, count-there)) (omega (arith, l .few-accounts, count-there))))
 
-    pub accounts-are : (a ≡ 0 → ⊥) → a ≡ accountsIn bs
+    pub accounts-are : (a ≡ 0 → ⊥) → a ≡ savedAccountsIn bs
     accounts-are more = counted bs end 32 ea more .is ∙ count-there
 
 -- ---- the tests in the order of the code, with what was read so far
 
-module _ (bs : List ℕ) (c a n : ℕ) (e : c ≡ contractsIn bs) (f : a ≡ accountsIn bs) (g : n ≡ settlementsPlace c a + settlementsWidth) where
-  long-as : settlementsPlace (contractsIn bs) (accountsIn bs) + settlementsWidth ≡ n
+module _ (bs : List ℕ) (c a n : ℕ) (e : c ≡ contractsIn bs) (f : a ≡ savedAccountsIn bs) (g : n ≡ settlementsPlace c a + settlementsWidth) where
+  long-as : settlementsPlace (contractsIn bs) (savedAccountsIn bs) + settlementsWidth ≡ n
   long-as = rw (← e, ← f) (sym g)
 
   pub length-wrong : (length bs ≡ n → ⊥) → false ≡ shaped bs
@@ -110,7 +110,7 @@ shaped-long bs h = omega (arith, lengths bs h .ends)
 pub count-ready : (bs : List ℕ) (c : ℕ) → c ≡ contractsIn bs → shaped bs ≡ true → (c ≡ contractsIn bs) × (c ≤ maxContracts) × (2 * countWidth + savedContractWidth * c ≤ length bs)
 count-ready bs c e h = let l = lengths bs h in (e, omega (arith, e, l .few-contracts), omega (arith, e, l .ends))
 
-pub shaped-laid : (bs : List ℕ) (c a : ℕ) → c ≡ contractsIn bs → a ≡ accountsIn bs → shaped bs ≡ true → Laid bs c a
+pub shaped-laid : (bs : List ℕ) (c a : ℕ) → c ≡ contractsIn bs → a ≡ savedAccountsIn bs → shaped bs ≡ true → Laid bs c a
 shaped-laid bs c a e f h =
     let l = lengths bs h in
     record {
@@ -122,20 +122,20 @@ shaped-laid bs c a e f h =
     }
 
 module _ (bs : List ℕ) (c a : ℕ) (l : Laid bs c a) where
-  holdings-place : 2 * countWidth + savedContractWidth * c + savedAccountWidth * a ≡ accountPlace (contractsIn bs) (accountsIn bs)
+  holdings-place : 2 * countWidth + savedContractWidth * c + savedAccountWidth * a ≡ savedAccountPlace (contractsIn bs) (savedAccountsIn bs)
   holdings-place = omega (arith, l .contracts-are, l .accounts-are)
 
-  one-place : rowPlace (contractsIn bs) (accountsIn bs) (accountsIn bs) ≡ rowPlace c a a
+  one-place : rowPlace (contractsIn bs) (savedAccountsIn bs) (savedAccountsIn bs) ≡ rowPlace c a a
   one-place = rw (l .contracts-are, l .accounts-are)
 
-  product : accountsIn bs * contractsIn bs ≡ a * c
+  product : savedAccountsIn bs * contractsIn bs ≡ a * c
   product = rw (l .contracts-are, l .accounts-are)
 
   abbrev holdingsRight : Bool
-  holdingsRight = eqb (u32At bs (accountPlace (contractsIn bs) (accountsIn bs))) (accountsIn bs * contractsIn bs)
+  holdingsRight = eqb (u32At bs (savedAccountPlace (contractsIn bs) (savedAccountsIn bs))) (savedAccountsIn bs * contractsIn bs)
 
   module _ (n : ℕ) (e : n ≡ u32At bs (2 * countWidth + savedContractWidth * c + savedAccountWidth * a)) where
-    read-there : u32At bs (accountPlace (contractsIn bs) (accountsIn bs)) ≡ n
+    read-there : u32At bs (savedAccountPlace (contractsIn bs) (savedAccountsIn bs)) ≡ n
     read-there = ap (u32At bs) (sym holdings-place) ∙ sym e
 
     pub holdings-wrong : (n ≡ a * c → ⊥) → false ≡ countsRight bs
@@ -147,12 +147,12 @@ module _ (bs : List ℕ) (c a : ℕ) (l : Laid bs c a) where
     one-decides h m q =
         let p : length bs - (countWidth + settlementsWidth) ≡ rowPlace c a a = omega (arith, l .ends) in
         let t : holdingsRight ≡ true = eq-eqb _ _ (read-there ∙ h ∙ sym product) in
-        ap (λ (k : ℕ). eqb k 1) (q ∙ ap (u32At bs) (p ∙ sym one-place)) ∙ sym (ap (λ (b : Bool). b && eqb (u32At bs (rowPlace (contractsIn bs) (accountsIn bs) (accountsIn bs))) 1) t)
+        ap (λ (k : ℕ). eqb k 1) (q ∙ ap (u32At bs) (p ∙ sym one-place)) ∙ sym (ap (λ (b : Bool). b && eqb (u32At bs (rowPlace (contractsIn bs) (savedAccountsIn bs) (savedAccountsIn bs))) 1) t)
 
   -- a mark stands eight bytes behind its account's first byte
   module _ (first i n : ℕ) (p : first ≡ 2 * countWidth + balanceWidth + savedContractWidth * c) (e : n ≡ u8At bs (first + savedAccountWidth * i)) where
-    mark-there : n ≡ u8At bs (accountPlace (contractsIn bs) i + balanceWidth)
-    mark-there = let q : first + savedAccountWidth * i ≡ accountPlace (contractsIn bs) i + balanceWidth = omega (arith, l .contracts-are) in e ∙ ap (u8At bs) q
+    mark-there : n ≡ u8At bs (savedAccountPlace (contractsIn bs) i + balanceWidth)
+    mark-there = let q : first + savedAccountWidth * i ≡ savedAccountPlace (contractsIn bs) i + balanceWidth = omega (arith, l .contracts-are) in e ∙ ap (u8At bs) q
 
     pub mark-wrong : 1 < n → markSound bs i ≡ false
     unfolding markSound

@@ -15,7 +15,7 @@ use Rattle.rules.specs.declared.Contract.{Contract}
 use Rattle.rules.specs.declared.State.{State}
 use Rattle.endian.specs.Numbers.{four}
 use Rattle.sections.specs.Sections.{holdingsBytes, inRow, section}
-use Rattle.statefile.specs.StateFile.{accountBytes, accountsIn, contractBytes, settlementsPlace, totalsEqual, settlementsWidth}
+use Rattle.statefile.specs.StateFile.{accountBytes, savedAccountsIn, contractBytes, settlementsPlace, totalsEqual, settlementsWidth}
 
 -- ---- the file of a state, section by section
 
@@ -54,12 +54,12 @@ pub record Fitting (s : State) (out : List ℕ) : Type 0 where
 
 -- ---- whether it may be written
 
-abbrev pub asleepAt : State → ℕ → Bool
-asleepAt s c = eqb (getD (s .contracts) c noContract .phase) preOpen && eqb (getD (s .buycounts) c 0) 0 && eqb (getD (s .sellcounts) c 0) 0
+abbrev pub emptyPreOpenAt : State → ℕ → Bool
+emptyPreOpenAt s c = eqb (getD (s .contracts) c noContract .phase) preOpen && eqb (getD (s .buycounts) c 0) 0 && eqb (getD (s .sellcounts) c 0) 0
 
 unfoldable pub stateWritable : State → Bool
 stateWritable s =
-    all (asleepAt s) (s .contractcount)
+    all (emptyPreOpenAt s) (s .contractcount)
     && all (totalsEqual (take (s .accountcount) (s .accounts))) (s .contractcount)
     && eqb (s .tradecount) 0
     && eqb (s .next) 1
@@ -69,7 +69,7 @@ stateWritable s =
 
 pub record Laid (bs : List ℕ) (contracts accounts : ℕ) : Type 0 where
   pub contracts-are : contracts ≡ contractsIn bs
-  pub accounts-are : accounts ≡ accountsIn bs
+  pub accounts-are : accounts ≡ savedAccountsIn bs
   pub few-contracts : contracts ≤ maxContracts
   pub few-accounts : accounts ≤ maxAccounts
   pub ends : length bs ≡ settlementsPlace contracts accounts + settlementsWidth

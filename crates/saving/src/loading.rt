@@ -3,12 +3,12 @@
 ghost use mathlib.Core.Path.{_≡_};
 ghost use Prim.Native.Nat.{_+_, _*_, _<_, _≤_};
 ghost use lib.ListN.{length, getD};
-ghost use Rattle.laws.specs.Written.{written};
+ghost use Rattle.laws.specs.Written.{overwritten};
 ghost use Rattle.rules.specs.Bounds.{maxContracts};
 ghost use Rattle.rules.specs.Exchange.{noAccount};
 ghost use Rattle.rules.specs.Memory.{putAccount};
 ghost use Rattle.sections.specs.Sections.{holdingWidth};
-ghost use Rattle.statefile.specs.StateFile.{contractPlace, savedContract, savedHolding, savedAccount, loadedAccount, loadedFrom, loadedState, savedContractWidth, savedAccountWidth};
+ghost use Rattle.statefile.specs.StateFile.{savedContractPlace, savedContract, savedHolding, savedAccount, loadedAccount, loadedFrom, loadedState, savedContractWidth, savedAccountWidth};
 ghost use Rattle.saving.specs.Parts.{Laid};
 use crate::shape::BALANCE_WIDTH;
 use crate::shape::LOTS_WIDTH;
@@ -43,8 +43,8 @@ fn contracts_over(
     n: usize,
     places: [Contract; rules::MAX_CONTRACTS],
 ) -> [Contract; rules::MAX_CONTRACTS]
-    requires { ⌜ (n ≤ maxContracts) × (contractPlace n ≤ length (now file)) ⌝ }
-    ensures { λ r. ⌜ r ≡ written (λ c. savedContract (now (file .entry)) (contractPlace c)) places n ⌝ }
+    requires { ⌜ (n ≤ maxContracts) × (savedContractPlace n ≤ length (now file)) ⌝ }
+    ensures { λ r. ⌜ r ≡ overwritten (λ c. savedContract (now (file .entry)) (savedContractPlace c)) places n ⌝ }
 {
     let mut list = places;
     let mut c: usize = 0;
@@ -77,7 +77,7 @@ fn holdings_over(
     places: [Holding; rules::MAX_CONTRACTS],
 ) -> [Holding; rules::MAX_CONTRACTS]
     requires { ⌜ (n ≤ maxContracts) × (row + holdingWidth * n ≤ length (now file)) ⌝ }
-    ensures { λ r. ⌜ r ≡ written (λ c. savedHolding (now (file .entry)) (row + holdingWidth * c)) places n ⌝ }
+    ensures { λ r. ⌜ r ≡ overwritten (λ c. savedHolding (now (file .entry)) (row + holdingWidth * c)) places n ⌝ }
 {
     let mut list = places;
     let mut c: usize = 0;
@@ -111,7 +111,7 @@ fn accounts_over(
     places: [Account; rules::MAX_ACCOUNTS],
 ) -> [Account; rules::MAX_ACCOUNTS]
     requires { ⌜ Laid (now file) contracts accounts ⌝ }
-    ensures { λ r. ⌜ r ≡ written (λ a. putAccount (loadedAccount (now (file .entry)) a) (getD places a noAccount)) places accounts ⌝ }
+    ensures { λ r. ⌜ r ≡ overwritten (λ a. putAccount (loadedAccount (now (file .entry)) a) (getD places a noAccount)) places accounts ⌝ }
 {
     let first = TWO_COUNTS + SAVED_CONTRACT_WIDTH * contracts;
     let rows = first + SAVED_ACCOUNT_WIDTH * accounts + rules::COUNT_WIDTH;

@@ -53,7 +53,7 @@ pub fn file_length(contracts: usize, accounts: usize) -> usize
 // The accounts' count stands behind the contracts.
 pub fn account_count(file: &[u8], contracts: usize) -> usize
     requires { ⌜ (contracts ≡ contractsIn (now file)) × (contracts ≤ maxContracts) × (2 * countWidth + statefile.savedContractWidth * contracts ≤ length (now file)) ⌝ }
-    ensures { λ r. ⌜ r ≡ statefile.accountsIn (now (file .entry)) ⌝ }
+    ensures { λ r. ⌜ r ≡ statefile.savedAccountsIn (now (file .entry)) ⌝ }
 {
     u32_at(file, rules::COUNT_WIDTH + SAVED_CONTRACT_WIDTH * contracts) as usize
 }

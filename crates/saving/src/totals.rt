@@ -5,7 +5,7 @@ ghost use lib.ListN.{take};
 ghost use Rattle.laws.specs.Choice.{all};
 ghost use Rattle.rules.specs.Bounds.{maxContracts, maxAccounts};
 ghost use Rattle.statefile.specs.StateFile.{totalsEqual};
-ghost use Rattle.saving.specs.Parts.{asleepAt, stateWritable};
+ghost use Rattle.saving.specs.Parts.{emptyPreOpenAt, stateWritable};
 use rules::Account;
 use rules::State;
 
@@ -49,9 +49,9 @@ pub fn all_equal(list: [Account; rules::MAX_ACCOUNTS], accounts: usize, contract
 }
 
 // "every contract is in pre-open", and no orders exist
-fn all_asleep(state: State) -> bool
+fn all_empty(state: State) -> bool
     requires { ⌜ state .contractcount ≤ maxContracts ⌝ }
-    ensures { λ r. ⌜ r ≡ all (asleepAt state) (state .contractcount) ⌝ }
+    ensures { λ r. ⌜ r ≡ all (emptyPreOpenAt state) (state .contractcount) ⌝ }
 {
     let contracts = state.contractcount;
     let mut c: usize = 0;
@@ -77,7 +77,7 @@ pub fn is_writable(state: State) -> bool
     requires { ⌜ (state .contractcount ≤ maxContracts) × (state .accountcount ≤ maxAccounts) ⌝ }
     ensures { λ r. ⌜ r ≡ stateWritable state ⌝ }
 {
-    if !all_asleep(state) {
+    if !all_empty(state) {
         return false;
     }
     let accounts = state.accounts;

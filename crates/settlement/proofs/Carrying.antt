@@ -16,7 +16,7 @@ use Rattle.rules.specs.declared.{Account.Account, Holding.Holding, State.State}
 use Rattle.settlement.specs.Settling.{accountIn, HasDay, carriedAccount, AllPayable, BooksIs}
 use Rattle.dayprofit.specs.declared.profit.Profit.{Profit}
 use Rattle.settlement.proofs.Totals.{TotalIs}
-use Rattle.settlement.proofs.Places.{written-mapped, written-accounts, written-padded}
+use Rattle.settlement.proofs.Places.{overwritten-mapped, overwritten-accounts, overwritten-padded}
 
 -- ---- the loop over an account's holdings: those in the first c contracts are carried over
 
@@ -41,7 +41,7 @@ module _ (account : Account) (contracts : ℕ) (room : contracts ≤ length (acc
   carrying-done l =
       let e : next .holdings ≡ putFirst (map carriedHolding (take contracts (account .holdings))) (account .holdings) =
       writing-done (carriedAt (account .holdings)) (account .holdings) contracts c (next .holdings) l (w .holdings)
-      ∙ sym (written-mapped carriedHolding (account .holdings) contracts noHolding room) in
+      ∙ sym (overwritten-mapped carriedHolding (account .holdings) contracts noHolding room) in
       let b = w .balance in
       let k = w .maker in
       λ i. record { balance = b i; maker = k i; holdings = e i }
@@ -128,8 +128,8 @@ module _ {s : State} {trades prices : List ℕ} (g : AllPayable s trades prices)
   paying-done l =
       record {
         books = λ x has. let done = w .paying x has in record {
-          accounts = writing-done _ _ _ a accounts l (done .paid) ∙ sym (written-accounts (settledAccount x) (s .accounts) (s .accountcount) (omega (arith, g .accounts, g .declared .accounts)));
-          closing = writing-done _ _ _ a closing l (done .closed) ∙ written-padded _ _ 32 (pos 0);
-          holding = writing-done _ _ _ a holding l (done .held) ∙ written-padded _ _ 32 (pos 0);
+          accounts = writing-done _ _ _ a accounts l (done .paid) ∙ sym (overwritten-accounts (settledAccount x) (s .accounts) (s .accountcount) (omega (arith, g .accounts, g .declared .accounts)));
+          closing = writing-done _ _ _ a closing l (done .closed) ∙ overwritten-padded _ _ 32 (pos 0);
+          holding = writing-done _ _ _ a holding l (done .held) ∙ overwritten-padded _ _ 32 (pos 0);
         };
       }

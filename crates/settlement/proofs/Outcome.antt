@@ -4,7 +4,7 @@ use lib.IntN.{ℤ}
 use Rattle.laws.specs.Logic.{true, List, [], map, _≡_, refl, sym, ap, ap₂, _∙_}
 use Rattle.laws.specs.Numbers.{ℕ, zero, suc, _+_, _<_, _≤_, le-trans, le-of-eq, arith, leb-false, length, getD}
 use Rattle.laws.specs.Tabulate.{tabulate, length-tabulate, getD-tabulate, tabulate-below, map-tabulate}
-use Rattle.laws.specs.Written.{length-written}
+use Rattle.laws.specs.Written.{length-overwritten}
 use Rattle.areas.specs.Lists.{padded}
 use Rattle.areas.proofs.Lists.{getD-padded}
 use Rattle.rules.specs.Kinds.{codeOf, kindOf}
@@ -23,7 +23,7 @@ use Rattle.invariants.proofs.MemoryKeeps.{accepted-read, accepted-keeps}
 use Rattle.invariants.proofs.MemoryRoom.{memory-ok}
 use Rattle.settlement.specs.Settling.{AllPriceable, pricesDue, Settleable, SettledIs, HasDay, AllPayable, BooksOf, BooksIs, AllClearable, ClearedAre, AllChargeable, ChargesAre, nextDay}
 use Rattle.settlement.proofs.Formed.{accounts-declared, contracts-four, accounts-few, contract-at, price-high, holding-starts, legs-covered, chargeable, sized-trades, placed-trades, balance-within, accounts-counted, priceable}
-use Rattle.settlement.proofs.Places.{written-accounts}
+use Rattle.settlement.proofs.Places.{overwritten-accounts}
 
 -- ---- the state of the next day, from its parts
 
@@ -229,7 +229,7 @@ module _ (s : State) (buys sells trades : List ℕ) (g : Settleable s buys sells
         room-after : s .accountcount ≤ length accounts
         room-after =
             le-trans room
-            (le-of-eq (sym (ap length (books .accounts) ∙ ap length (written-accounts (settledAccount x) (s .accounts) (s .accountcount) room) ∙ length-written _ (s .accounts) (s .accountcount) room)))
+            (le-of-eq (sym (ap length (books .accounts) ∙ ap length (overwritten-accounts (settledAccount x) (s .accounts) (s .accountcount) room) ∙ length-overwritten _ (s .accounts) (s .accountcount) room)))
 
         pub all-chargeable : (next : State) → next ≡ nextDay s accounts prices → AllChargeable next buys′ sells′
         all-chargeable next e =

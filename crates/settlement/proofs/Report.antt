@@ -15,7 +15,7 @@ use Rattle.dayprofit.specs.Day.{PriceIs}
 use Rattle.margin.specs.Charge.{ChargedAt}
 use Rattle.margin.proofs.Charging.{charged-at}
 use Rattle.settlement.specs.Settling.{AllChargeable, ChargesAre}
-use Rattle.settlement.proofs.Places.{written-padded}
+use Rattle.settlement.proofs.Places.{overwritten-padded}
 
 -- ---- prices
 
@@ -31,7 +31,7 @@ PricesSoFar m c prices = Writing (settlementPrice (exchangeOf m)) (replicate 4 0
 
 pub prices-done : (m : Memory) (c : ℕ) (prices : List ℕ) → m .state .contractcount ≤ c → PricesSoFar m c prices
     → prices ≡ padded 4 0 (tabulate (m .state .contractcount) (settlementPrice (exchangeOf m)))
-prices-done m c prices h w = writing-done _ _ _ c prices h w ∙ written-padded _ _ 4 0
+prices-done m c prices h w = writing-done _ _ _ c prices h w ∙ overwritten-padded _ _ 4 0
 
 -- ---- charged margin, whatever trades the day has
 
@@ -47,4 +47,4 @@ module _ (s : State) (buys sells : List ℕ) where
   charges-more g a v r h e w = record { each = λ trades. writing-more _ _ _ (g .accounts) a v r h (charged-at s buys sells a v h e trades) (w .each trades) }
 
   pub charges-done : (a : ℕ) (r : List ℕ) → s .accountcount ≤ a → ChargesSoFar s buys sells a r → ChargesAre s buys sells r
-  charges-done a r h w = record { charged = λ trades. writing-done _ _ _ a r h (w .each trades) ∙ written-padded _ _ 32 0 }
+  charges-done a r h w = record { charged = λ trades. writing-done _ _ _ a r h (w .each trades) ∙ overwritten-padded _ _ 32 0 }

@@ -83,7 +83,7 @@ module _ (m : Memory) (d : Declared (m .state)) (w : wellFormedMemory m ≡ true
 pub loadable : (x : Exchange) → Savable x → Loadable x
 loadable x s =
     let p = writable-parts x (s .ready) in
-    record { contracts = s .contracts; accounts = s .accounts; places = s .places; asleep-all = p .asleep-all; no-trades = p .no-trades }
+    record { contracts = s .contracts; accounts = s .accounts; places = s .places; empty-all = p .empty-all; no-trades = p .no-trades }
 
 -- ---- and read again
 

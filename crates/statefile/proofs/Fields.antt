@@ -20,7 +20,7 @@ use Rattle.rules.specs.declared.Holding.{Holding}
 use Rattle.rules.specs.declared.Order.{Order}
 use Rattle.endian.specs.Numbers.{two, four, eight, unsigned, signEnd, signedOf}
 use Rattle.sections.specs.Sections.{holdingBytes, holdingWidth}
-use Rattle.statefile.specs.StateFile.{asleep, contractBytes, savedContract, savedHolding, balanceWidth, savedAccountWidth, savedContractWidth}
+use Rattle.statefile.specs.StateFile.{emptyPreOpen, contractBytes, savedContract, savedHolding, balanceWidth, savedAccountWidth, savedContractWidth}
 use Rattle.endian.proofs.Numbers.{Bytes, parts, two-back, four-back, eight-back, one-forth, two-forth, four-forth, eight-forth, below-8, u8-drop, u16-drop, u32-drop, u64-drop}
 use Rattle.endian.proofs.Signs.{signed-back, signed-forth}
 use Rattle.statefile.proofs.Rows.{Field}
@@ -52,8 +52,8 @@ contract-back c ys h =
       ← h,
     )
 
-listing-back : (l : Listing) (ys : List ℕ) → asleep l ≡ true → listingFrom (listingBytes l ++ ys) ≡ l
-unfolding asleep
+listing-back : (l : Listing) (ys : List ℕ) → emptyPreOpen l ≡ true → listingFrom (listingBytes l ++ ys) ≡ l
+unfolding emptyPreOpen
 listing-back l ys h =
     let p = all-passed (eqb (l .contract .phase) preOpen) (eqb (length (l .buys)) 0 ∷ eqb (length (l .sells)) 0 ∷ []) h in
     let c = contract-back (l .contract) ys (eqb-true (l .contract .phase) preOpen (p .0)) in
@@ -89,7 +89,7 @@ listing-forth xs b h =
     )
     (parts 0 2 22 xs)
 
-pub listing : Field Listing savedContractWidth asleep listingBytes listingFrom
+pub listing : Field Listing savedContractWidth emptyPreOpen listingBytes listingFrom
 unfolding contractBytes four two
 listing = record { wide = λ l h. refl; back = listing-back; forth = listing-forth }
 

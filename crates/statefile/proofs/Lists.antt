@@ -16,7 +16,7 @@ use Rattle.rules.specs.Exchange.{Listing}
 use Rattle.rules.specs.declared.Account.{Account}
 use Rattle.rules.specs.declared.Holding.{Holding}
 use Rattle.endian.specs.Numbers.{signedOf}
-use Rattle.statefile.specs.StateFile.{accountPlace, accountsIn, contractPlace, loadedAccount, loadedFrom, loadedListing, markSound, rowPlace, savedAccount, savedHolding, balanceWidth, savedAccountWidth, savedContractWidth}
+use Rattle.statefile.specs.StateFile.{savedAccountPlace, savedAccountsIn, savedContractPlace, loadedAccount, loadedFrom, loadedListing, markSound, rowPlace, savedAccount, savedHolding, balanceWidth, savedAccountWidth, savedContractWidth}
 use Rattle.statefile.proofs.Fields.{Entry, contract-at, entry-at, entryOf, holding-at, holdingFrom, listingFrom, savedEntry}
 use Rattle.statefile.proofs.Rows.{records-table}
 use Rattle.sections.specs.Sections.{holdingWidth}
@@ -69,16 +69,16 @@ module _ (bs : List ℕ) where
   c = contractsIn bs
 
   abbrev a : ℕ
-  a = accountsIn bs
+  a = savedAccountsIn bs
 
   abbrev pub listingsOf : List Listing
   listingsOf = records savedContractWidth listingFrom bs countWidth c
 
   abbrev pub entriesOf : List Entry
-  entriesOf = records savedAccountWidth savedEntry bs (contractPlace c + countWidth) a
+  entriesOf = records savedAccountWidth savedEntry bs (savedContractPlace c + countWidth) a
 
   abbrev pub rowsOf : List (List Holding)
-  rowsOf = records (holdingWidth * c) (savedRow c) bs (accountPlace c a + countWidth) a
+  rowsOf = records (holdingWidth * c) (savedRow c) bs (savedAccountPlace c a + countWidth) a
 
   pub listings-are : loadedFrom bs .listings ≡ listingsOf
   unfolding loadedFrom loadedListing
@@ -87,9 +87,9 @@ module _ (bs : List ℕ) where
       ∙ tabulate-ext c (λ i. listingFrom (drop (countWidth + savedContractWidth * i) bs)) (loadedListing bs)
       (λ i. ap (λ k. record { contract = k; buys = []; sells = [] }) (contract-at bs (countWidth + savedContractWidth * i))))
 
-  entry-is : (i : ℕ) → savedEntry (drop (contractPlace c + countWidth + savedAccountWidth * i) bs)
-      ≡ record { balance = signedOf (u64At bs (accountPlace c i)); mark = u8At bs (accountPlace c i + balanceWidth) }
-  entry-is i = entry-at bs (accountPlace c i)
+  entry-is : (i : ℕ) → savedEntry (drop (savedContractPlace c + countWidth + savedAccountWidth * i) bs)
+      ≡ record { balance = signedOf (u64At bs (savedAccountPlace c i)); mark = u8At bs (savedAccountPlace c i + balanceWidth) }
+  entry-is i = entry-at bs (savedAccountPlace c i)
 
   row-is : (i : ℕ) → savedRow c (drop (rowPlace c a i) bs) ≡ tabulate c (λ k. savedHolding bs (rowPlace c a i + holdingWidth * k))
   row-is i =
@@ -106,10 +106,10 @@ module _ (bs : List ℕ) where
   accounts-are =
       tabulate-ext a (loadedAccount bs) (λ i. accountOf (entryHere i) (rowHere i)) (λ i. sym (ap₂ accountOf (entry-is i) (row-is i)))
       ∙ accounts-table a entryHere rowHere
-      ∙ ap₂ accountsOf (sym (records-table savedAccountWidth savedEntry bs (contractPlace c + countWidth) a)) (sym (records-table (holdingWidth * c) (savedRow c) bs (accountPlace c a + countWidth) a))
+      ∙ ap₂ accountsOf (sym (records-table savedAccountWidth savedEntry bs (savedContractPlace c + countWidth) a)) (sym (records-table (holdingWidth * c) (savedRow c) bs (savedAccountPlace c a + countWidth) a))
     where
       entryHere : ℕ → Entry
-      entryHere i = savedEntry (drop (contractPlace c + countWidth + savedAccountWidth * i) bs)
+      entryHere i = savedEntry (drop (savedContractPlace c + countWidth + savedAccountWidth * i) bs)
 
       rowHere : ℕ → List Holding
       rowHere i = savedRow c (drop (rowPlace c a i) bs)
@@ -118,6 +118,6 @@ module _ (bs : List ℕ) where
   pub marks-are : allOf marked entriesOf ≡ all (markSound bs) a
   unfolding markSound
   marks-are =
-      ap (λ (l : List Entry). allOf marked l) (records-table savedAccountWidth savedEntry bs (contractPlace c + countWidth) a)
-      ∙ allOf-table marked a (λ i. savedEntry (drop (contractPlace c + countWidth + savedAccountWidth * i) bs))
-      ∙ all-ext (λ i. marked (savedEntry (drop (contractPlace c + countWidth + savedAccountWidth * i) bs))) (markSound bs) a (λ i l. ap marked (entry-is i))
+      ap (λ (l : List Entry). allOf marked l) (records-table savedAccountWidth savedEntry bs (savedContractPlace c + countWidth) a)
+      ∙ allOf-table marked a (λ i. savedEntry (drop (savedContractPlace c + countWidth + savedAccountWidth * i) bs))
+      ∙ all-ext (λ i. marked (savedEntry (drop (savedContractPlace c + countWidth + savedAccountWidth * i) bs))) (markSound bs) a (λ i l. ap marked (entry-is i))

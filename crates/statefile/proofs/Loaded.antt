@@ -24,7 +24,7 @@ use Rattle.rules.proofs.Terms.{within-high, within-low}
 use Rattle.accounting.proofs.Declared.{put-declared}
 use Rattle.invariants.proofs.MemoryLaws.{put-first-at}
 use Rattle.invariants.proofs.MemoryRoom.{CountsOk, counts-test, memory-test, room-ok}
-use Rattle.statefile.specs.StateFile.{asleep, loadedState}
+use Rattle.statefile.specs.StateFile.{emptyPreOpen, loadedState}
 use Rattle.statefile.proofs.Fields.{nothing-in}
 
 -- what the arrays have places for, without orders or trades
@@ -32,7 +32,7 @@ pub record Loadable (x : Exchange) : Type 0 where
   pub contracts : within 1 maxContracts (length (x .listings)) ≡ true
   pub accounts : within 1 maxAccounts (length (x .accounts)) ≡ true
   pub places : allOf (λ a. eqb (length (a .holdings)) (length (x .listings))) (x .accounts) ≡ true
-  pub asleep-all : allOf asleep (x .listings) ≡ true
+  pub empty-all : allOf emptyPreOpen (x .listings) ≡ true
   pub no-trades : x .trades ≡ []
 
 -- accounts put into places are the accounts in use there
@@ -54,10 +54,10 @@ module _ (m : Memory) (d : Declared (m .state)) (x : Exchange) (s : Loadable x) 
     sells : listingAt x c .sells ≡ []
 
   still : (c : ℕ) → c < length (x .listings) → Still c
-  unfolding asleep listingAt
+  unfolding emptyPreOpen listingAt
   still c l =
       let n = getD (x .listings) c noListing in
-      let p = all-passed (eqb (n .contract .phase) preOpen) (eqb (length (n .buys)) 0 ∷ eqb (length (n .sells)) 0 ∷ []) (allOf-at asleep (x .listings) c noListing (s .asleep-all) l) in
+      let p = all-passed (eqb (n .contract .phase) preOpen) (eqb (length (n .buys)) 0 ∷ eqb (length (n .sells)) 0 ∷ []) (allOf-at emptyPreOpen (x .listings) c noListing (s .empty-all) l) in
       record { buys = nothing-in (n .buys) (p .1 .0); sells = nothing-in (n .sells) (p .1 .1) }
 
   buy-count : (c : ℕ) → c < length (x .listings) → getD (put .state .buycounts) c 0 ≡ 0

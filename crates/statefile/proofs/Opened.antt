@@ -11,7 +11,7 @@ use Rattle.laws.specs.Lists.{getD-same}
 use Rattle.laws.specs.Tabulate.{tabulate, allOf-table}
 use Rattle.rules.specs.DayFile.{accountsIn, contractFrom, contractsIn, opening, openingAccount, openingListing}
 use Rattle.rules.specs.Exchange.{noHolding}
-use Rattle.statefile.specs.StateFile.{allEqual, asleep, totalsEqual, writable}
+use Rattle.statefile.specs.StateFile.{allEqual, emptyPreOpen, totalsEqual, writable}
 
 sum-table : {A : Type 0} (f g : A → ℕ) (n : ℕ) (h : ℕ → A) → ((i : ℕ) → f (h i) ≡ g (h i)) → sumOf f (tabulate n h) ≡ sumOf g (tabulate n h)
 unfolding sumOf tabulate
@@ -33,13 +33,13 @@ module _ (file : List ℕ) where
   unfolding allEqual
   equal-all = all-true (totalsEqual (opening file .accounts)) (length (opening file .listings)) (λ c l. equal-at c)
 
-  still : (c : ℕ) → asleep (openingListing file c) ≡ true
-  unfolding asleep openingListing contractFrom
+  still : (c : ℕ) → emptyPreOpen (openingListing file c) ≡ true
+  unfolding emptyPreOpen openingListing contractFrom
   still c = refl
 
-  asleep-all : allOf asleep (opening file .listings) ≡ true
+  empty-all : allOf emptyPreOpen (opening file .listings) ≡ true
   unfolding opening
-  asleep-all = allOf-table asleep (contractsIn file) (openingListing file) ∙ all-true (λ c. asleep (openingListing file c)) (contractsIn file) (λ c l. still c)
+  empty-all = allOf-table emptyPreOpen (contractsIn file) (openingListing file) ∙ all-true (λ c. emptyPreOpen (openingListing file c)) (contractsIn file) (λ c l. still c)
 
   fresh : (length (opening file .trades) ≡ 0) × ((opening file .next ≡ 1) × (opening file .nextstamp ≡ 1))
   unfolding opening
@@ -47,4 +47,4 @@ module _ (file : List ℕ) where
 
   pub opening-writable : writable (opening file) ≡ true
   unfolding writable
-  opening-writable = rw (asleep-all, equal-all, fresh .0, fresh .1 .0, fresh .1 .1)
+  opening-writable = rw (empty-all, equal-all, fresh .0, fresh .1 .0, fresh .1 .1)

@@ -18,7 +18,7 @@ use Rattle.invariants.proofs.Clauses.{well-formed}
 use Rattle.endian.specs.Numbers.{two, four}
 use Rattle.endian.proofs.Writes.{length-four}
 use Rattle.sections.specs.Sections.{holdingBytes, section, holdingWidth}
-use Rattle.statefile.specs.StateFile.{accountBytes, accountPlace, accountsIn, contractPlace, countsRight, loadedFrom, markSound, rowBytes, rowPlace, savedBytes, savedSound, settlementsPlace, shaped, savedAccountWidth, settlementsWidth}
+use Rattle.statefile.specs.StateFile.{accountBytes, savedAccountPlace, savedAccountsIn, savedContractPlace, countsRight, loadedFrom, markSound, rowBytes, rowPlace, savedBytes, savedSound, settlementsPlace, shaped, savedAccountWidth, settlementsWidth}
 use Rattle.statefile.proofs.Fields.{entry, entryBytes, entryOf, holding, listing, listingBytes}
 use Rattle.statefile.proofs.Lists.{accounts-again, accounts-are, accountsOf, entriesOf, listings-are, listingsOf, marked, marks-are, rowsOf}
 use Rattle.endian.proofs.Numbers.{four-behind}
@@ -86,8 +86,8 @@ module _ (x : Exchange) (s : Savable x) where
 
   -- ---- lengths
 
-  length-contracts : length contractPart ≡ contractPlace c
-  length-contracts = length-section listing c (x .listings) (writable-parts x (s .ready) .asleep-all)
+  length-contracts : length contractPart ≡ savedContractPlace c
+  length-contracts = length-section listing c (x .listings) (writable-parts x (s .ready) .empty-all)
 
   length-accounts : length accountPart ≡ countWidth + savedAccountWidth * a
   length-accounts =
@@ -99,7 +99,7 @@ module _ (x : Exchange) (s : Savable x) where
       length-section (row holding c) (a * c) rows (holdings-fit x s)
       ∙ ap (λ (k : ℕ). countWidth + holdingWidth * c * k) (length-map (x .accounts) (λ o. o .holdings))
 
-  length-front : length (contractPart ++ accountPart) ≡ accountPlace c a
+  length-front : length (contractPart ++ accountPart) ≡ savedAccountPlace c a
   length-front = length-append contractPart accountPart ∙ omega (arith, length-contracts, length-accounts)
 
   length-body : length ((contractPart ++ accountPart) ++ holdingPart) ≡ rowPlace c a a
@@ -133,19 +133,19 @@ module _ (x : Exchange) (s : Savable x) where
   unfolding contractsIn
   contracts-back = count-back file [] c _ _ 0 from-contracts refl
 
-  pub accounts-back : accountsIn file ≡ a
-  unfolding accountsIn
-  accounts-back = rw contracts-back (count-back file contractPart a _ _ (contractPlace c) from-contracts length-contracts)
+  pub accounts-back : savedAccountsIn file ≡ a
+  unfolding savedAccountsIn
+  accounts-back = rw contracts-back (count-back file contractPart a _ _ (savedContractPlace c) from-contracts length-contracts)
 
-  holdings-back : u32At file (accountPlace c a) ≡ a * c
-  holdings-back = count-back file (contractPart ++ accountPart) (a * c) _ _ (accountPlace c a) from-holdings length-front
+  holdings-back : u32At file (savedAccountPlace c a) ≡ a * c
+  holdings-back = count-back file (contractPart ++ accountPart) (a * c) _ _ (savedAccountPlace c a) from-holdings length-front
 
   one-back : u32At file (rowPlace c a a) ≡ 1
   one-back =
       count-back file ((contractPart ++ accountPart) ++ holdingPart) 1 (four (x .settlements)) [] (rowPlace c a a)
       (from-last ∙ ap (λ (l : List ℕ). ((contractPart ++ accountPart) ++ holdingPart) ++ l) (sym (append-nil lastPart))) length-body
 
-  settlements-back : u32At file (settlementsPlace (contractsIn file) (accountsIn file)) ≡ x .settlements
+  settlements-back : u32At file (settlementsPlace (contractsIn file) (savedAccountsIn file)) ≡ x .settlements
   settlements-back =
       let p = (contractPart ++ accountPart) ++ holdingPart in
       rw (contracts-back, accounts-back)
@@ -157,17 +157,17 @@ module _ (x : Exchange) (s : Savable x) where
 
   listings-back : listingsOf file ≡ x .listings
   listings-back =
-      section-back listing file [] c (x .listings) _ 0 (contractsIn file) from-contracts refl contracts-back (writable-parts x (s .ready) .asleep-all)
+      section-back listing file [] c (x .listings) _ 0 (contractsIn file) from-contracts refl contracts-back (writable-parts x (s .ready) .empty-all)
 
   entries-back : entriesOf file ≡ map entryOf (x .accounts)
   entries-back =
-      section-back entry file contractPart a (map entryOf (x .accounts)) _ (contractPlace (contractsIn file)) (accountsIn file) from-contracts
+      section-back entry file contractPart a (map entryOf (x .accounts)) _ (savedContractPlace (contractsIn file)) (savedAccountsIn file) from-contracts
       (rw contracts-back length-contracts) (accounts-back ∙ sym (length-map (x .accounts) entryOf)) (entries-fit x s)
 
   rows-back : rowsOf file ≡ rows
   rows-back =
       rw (contracts-back, accounts-back)
-      (section-back (row holding c) file (contractPart ++ accountPart) (a * c) rows _ (accountPlace c a) a from-holdings
+      (section-back (row holding c) file (contractPart ++ accountPart) (a * c) rows _ (savedAccountPlace c a) a from-holdings
       length-front (sym (length-map (x .accounts) (λ o. o .holdings))) (holdings-fit x s))
 
   -- ---- the state and the file's soundness
@@ -177,7 +177,7 @@ module _ (x : Exchange) (s : Savable x) where
   read-back =
       let w = writable-parts x (s .ready) in
       exchange-again x (loadedFrom file .listings) (loadedFrom file .accounts) [] 1 1
-      (u32At file (settlementsPlace (contractsIn file) (accountsIn file)))
+      (u32At file (settlementsPlace (contractsIn file) (savedAccountsIn file)))
       (listings-are file ∙ listings-back)
       (accounts-are file ∙ ap₂ accountsOf entries-back rows-back ∙ accounts-again (x .accounts))
       (sym (w .no-trades)) (sym (w .next-one)) (sym (w .stamp-one)) settlements-back
@@ -191,11 +191,11 @@ module _ (x : Exchange) (s : Savable x) where
         s .contracts,
         s .accounts,
         eq-eqb (length file) (settlementsPlace c a + settlementsWidth) length-saved,
-        eq-eqb (u32At file (accountPlace c a)) (a * c) holdings-back,
+        eq-eqb (u32At file (savedAccountPlace c a)) (a * c) holdings-back,
         eq-eqb (u32At file (rowPlace c a a)) 1 one-back,
       )
 
-  marks-back : all (markSound file) (accountsIn file) ≡ true
+  marks-back : all (markSound file) (savedAccountsIn file) ≡ true
   unfolding accountAt
   marks-back =
       sym (marks-are file) ∙ ap (allOf marked) entries-back

@@ -19,7 +19,7 @@ use Rattle.rules.specs.declared.Holding.{Holding}
 use Rattle.rules.specs.declared.Trade.{Trade}
 use Rattle.endian.specs.Numbers.{signEnd}
 use Rattle.invariants.proofs.Clauses.{well-formed}
-use Rattle.statefile.specs.StateFile.{allEqual, asleep, writable}
+use Rattle.statefile.specs.StateFile.{allEqual, emptyPreOpen, writable}
 use Rattle.statefile.proofs.Fields.{entryOf, fitsSigned, holding, nothing-in, unmoved}
 use Rattle.statefile.proofs.Rows.{fitRow}
 
@@ -34,7 +34,7 @@ pub record Savable (x : Exchange) : Type 0 where
 -- ---- what a writable state has
 
 pub record Writable (x : Exchange) : Type 0 where
-  pub asleep-all : allOf asleep (x .listings) ≡ true
+  pub empty-all : allOf emptyPreOpen (x .listings) ≡ true
   pub equal-all : allEqual x ≡ true
   pub no-trades : x .trades ≡ []
   pub next-one : x .next ≡ 1
@@ -43,9 +43,9 @@ pub record Writable (x : Exchange) : Type 0 where
 pub writable-parts : (x : Exchange) → writable x ≡ true → Writable x
 unfolding writable
 writable-parts x h =
-    let w = all-passed (allOf asleep (x .listings)) (allEqual x ∷ eqb (length (x .trades)) 0 ∷ eqb (x .next) 1 ∷ eqb (x .nextstamp) 1 ∷ []) h in
+    let w = all-passed (allOf emptyPreOpen (x .listings)) (allEqual x ∷ eqb (length (x .trades)) 0 ∷ eqb (x .next) 1 ∷ eqb (x .nextstamp) 1 ∷ []) h in
     record {
-      asleep-all = w .0;
+      empty-all = w .0;
       equal-all = w .1 .0;
       no-trades = nothing-in (x .trades) (w .1 .1 .0);
       next-one = eqb-true (x .next) 1 (w .1 .1 .1 .0);

@@ -73,8 +73,8 @@ settlementsWidth = 4
 -- ---- "A state is writable exactly when every contract is in pre-open, its long and short totals are equal, no trades or orders
 -- exist and the next order number and stamp are 1."
 
-unfoldable pub asleep : Listing → Bool
-asleep l = eqb (l .contract .phase) preOpen && eqb (length (l .buys)) 0 && eqb (length (l .sells)) 0
+unfoldable pub emptyPreOpen : Listing → Bool
+emptyPreOpen l = eqb (l .contract .phase) preOpen && eqb (length (l .buys)) 0 && eqb (length (l .sells)) 0
 
 unfoldable pub totalsEqual : List Account → ℕ → Bool
 totalsEqual accounts c =
@@ -85,21 +85,21 @@ allEqual x = all (totalsEqual (x .accounts)) (length (x .listings))
 
 unfoldable pub writable : Exchange → Bool
 writable x =
-    allOf asleep (x .listings) && allEqual x && eqb (length (x .trades)) 0 && eqb (x .next) 1 && eqb (x .nextstamp) 1
+    allOf emptyPreOpen (x .listings) && allEqual x && eqb (length (x .trades)) 0 && eqb (x .next) 1 && eqb (x .nextstamp) 1
 
 -- ---- where the sections of a file stand: the contracts' count at its start, as in a day file
 
-abbrev pub contractPlace : ℕ → ℕ
-contractPlace c = countWidth + savedContractWidth * c
+abbrev pub savedContractPlace : ℕ → ℕ
+savedContractPlace c = countWidth + savedContractWidth * c
 
-unfoldable pub accountsIn : List ℕ → ℕ
-accountsIn bs = u32At bs (contractPlace (contractsIn bs))
+unfoldable pub savedAccountsIn : List ℕ → ℕ
+savedAccountsIn bs = u32At bs (savedContractPlace (contractsIn bs))
 
-abbrev pub accountPlace : ℕ → ℕ → ℕ
-accountPlace contracts a = contractPlace contracts + countWidth + savedAccountWidth * a
+abbrev pub savedAccountPlace : ℕ → ℕ → ℕ
+savedAccountPlace contracts a = savedContractPlace contracts + countWidth + savedAccountWidth * a
 
 abbrev pub rowPlace : ℕ → ℕ → ℕ → ℕ
-rowPlace contracts accounts a = accountPlace contracts accounts + countWidth + holdingWidth * contracts * a
+rowPlace contracts accounts a = savedAccountPlace contracts accounts + countWidth + holdingWidth * contracts * a
 
 abbrev pub settlementsPlace : ℕ → ℕ → ℕ
 settlementsPlace contracts accounts = rowPlace contracts accounts accounts + countWidth
@@ -136,22 +136,22 @@ savedAccount bs contracts at row =
     }
 
 unfoldable pub loadedListing : List ℕ → ℕ → Listing
-loadedListing bs c = record { contract = savedContract bs (contractPlace c); buys = []; sells = [] }
+loadedListing bs c = record { contract = savedContract bs (savedContractPlace c); buys = []; sells = [] }
 
 unfoldable pub loadedAccount : List ℕ → ℕ → Account
 loadedAccount bs a =
-    savedAccount bs (contractsIn bs) (accountPlace (contractsIn bs) a) (rowPlace (contractsIn bs) (accountsIn bs) a)
+    savedAccount bs (contractsIn bs) (savedAccountPlace (contractsIn bs) a) (rowPlace (contractsIn bs) (savedAccountsIn bs) a)
 
 -- the state that a file gives: no orders or trades, the next order number and stamp are 1
 unfoldable pub loadedFrom : List ℕ → Exchange
 loadedFrom bs =
     record {
       listings = tabulate (contractsIn bs) (loadedListing bs);
-      accounts = tabulate (accountsIn bs) (loadedAccount bs);
+      accounts = tabulate (savedAccountsIn bs) (loadedAccount bs);
       trades = [];
       next = 1;
       nextstamp = 1;
-      settlements = u32At bs (settlementsPlace (contractsIn bs) (accountsIn bs));
+      settlements = u32At bs (settlementsPlace (contractsIn bs) (savedAccountsIn bs));
     }
 
 -- ---- "20 for a broken file or a state not well formed (room of areas aside)"
@@ -159,23 +159,23 @@ loadedFrom bs =
 -- the holdings' count is accounts times contracts, and the last section's is 1
 unfoldable pub countsRight : List ℕ → Bool
 countsRight bs =
-    eqb (u32At bs (accountPlace (contractsIn bs) (accountsIn bs))) (accountsIn bs * contractsIn bs)
-    && eqb (u32At bs (rowPlace (contractsIn bs) (accountsIn bs) (accountsIn bs))) 1
+    eqb (u32At bs (savedAccountPlace (contractsIn bs) (savedAccountsIn bs))) (savedAccountsIn bs * contractsIn bs)
+    && eqb (u32At bs (rowPlace (contractsIn bs) (savedAccountsIn bs) (savedAccountsIn bs))) 1
 
 -- the settlement count ends the file
 unfoldable pub shaped : List ℕ → Bool
 shaped bs =
     within 1 maxContracts (contractsIn bs)
-    && within 1 maxAccounts (accountsIn bs)
-    && eqb (length bs) (settlementsPlace (contractsIn bs) (accountsIn bs) + settlementsWidth)
+    && within 1 maxAccounts (savedAccountsIn bs)
+    && eqb (length bs) (settlementsPlace (contractsIn bs) (savedAccountsIn bs) + settlementsWidth)
     && countsRight bs
 
 -- "maker mark 1, its value 0 or 1"
 unfoldable pub markSound : List ℕ → ℕ → Bool
-markSound bs a = leb (u8At bs (accountPlace (contractsIn bs) a + balanceWidth)) 1
+markSound bs a = leb (u8At bs (savedAccountPlace (contractsIn bs) a + balanceWidth)) 1
 
 unfoldable pub savedSound : List ℕ → Bool
-savedSound bs = shaped bs && all (markSound bs) (accountsIn bs) && wellFormedContents (loadedFrom bs)
+savedSound bs = shaped bs && all (markSound bs) (savedAccountsIn bs) && wellFormedContents (loadedFrom bs)
 
 -- ---- the state in memory: "Reading leaves places not in use untouched", so the areas stay as they are
 

@@ -25,7 +25,7 @@ use Rattle.rules.specs.declared.State.{State}
 use Rattle.rules.specs.declared.Trade.{Trade}
 use Rattle.endian.specs.Numbers.{two, four, eight, unsigned, signedOf}
 use Rattle.sections.specs.Sections.{holdingBytes}
-use Rattle.statefile.specs.StateFile.{accountBytes, accountsIn, allEqual, asleep, contractBytes, countsRight, loadedAccount, loadedFrom, loadedInto, loadedListing, loadedState, markSound, readCode, rowBytes, savedAccount, savedBytes, savedContract, savedHolding, savedSound, shaped, totalsEqual, writable, writeCode}
+use Rattle.statefile.specs.StateFile.{accountBytes, allEqual, contractBytes, countsRight, emptyPreOpen, loadedAccount, loadedFrom, loadedInto, loadedListing, loadedState, markSound, readCode, rowBytes, savedAccount, savedAccountsIn, savedBytes, savedContract, savedHolding, savedSound, shaped, totalsEqual, writable, writeCode}
 
 -- ---- the state
 
@@ -72,7 +72,7 @@ writable-cases =
     ∷ []
 
 pub writable-example : writable-cases ≡ true ∷ false ∷ false ∷ false ∷ false ∷ false ∷ false ∷ false ∷ []
-unfolding writable-cases terms holders all allOf sumOf asleep totalsEqual allEqual writable
+unfolding writable-cases terms holders all allOf sumOf emptyPreOpen totalsEqual allEqual writable
 writable-example = refl
 
 -- ---- the file, some of its numbers left open
@@ -100,7 +100,7 @@ unfolding evening terms holders fileOf encode two four eight unsigned contractBy
 saved-example = refl
 
 pub loaded-example : loadedFrom file ≡ evening
-unfolding evening terms holders fileOf tabulate u8At u16At u32At u64At contractsIn contractFrom signedOf savedContract savedHolding savedAccount accountsIn loadedListing loadedAccount loadedFrom
+unfolding evening terms holders fileOf tabulate u8At u16At u32At u64At contractsIn contractFrom signedOf savedContract savedHolding savedAccount savedAccountsIn loadedListing loadedAccount loadedFrom
 loaded-example = refl
 
 -- ---- the codes
@@ -173,15 +173,15 @@ read-codes =
     ∷ []
 
 pub write-example : write-codes ≡ 0 ∷ 29 ∷ 28 ∷ 28 ∷ 28 ∷ 21 ∷ []
-unfolding write-codes terms holders all allOf sumOf tabulate decode encode records onTick tickMultiple termsInRange accountAt holdingAt listingAt lotsWhere resting bookTrades neverBelowZero startOfDay sameLots sameHoldings contractInRange countersInRange sorted uncrossed rangesKept queuesSorted ordersInRange restingInRange listed allListed usedOnce quotes markAllowed queueQuoted listingQuoted markInRange replays heldInRange holdingInRange holdingsInRange balanceInRange wellFormedContents countsInRange hasRoom exchangeOf listingIn queueIn recordedTrades wellFormedMemory two four eight unsigned contractBytes accountBytes rowBytes holdingBytes savedBytes asleep totalsEqual allEqual writable firstOf writeCode
+unfolding write-codes terms holders all allOf sumOf tabulate decode encode records onTick tickMultiple termsInRange accountAt holdingAt listingAt lotsWhere resting bookTrades neverBelowZero startOfDay sameLots sameHoldings contractInRange countersInRange sorted uncrossed rangesKept queuesSorted ordersInRange restingInRange listed allListed usedOnce quotes markAllowed queueQuoted listingQuoted markInRange replays heldInRange holdingInRange holdingsInRange balanceInRange wellFormedContents countsInRange hasRoom exchangeOf listingIn queueIn recordedTrades wellFormedMemory two four eight unsigned contractBytes accountBytes rowBytes holdingBytes savedBytes emptyPreOpen totalsEqual allEqual writable firstOf writeCode
 write-example = refl
 
 pub read-example : read-codes ≡ 0 ∷ 0 ∷ 20 ∷ 20 ∷ 20 ∷ 20 ∷ 20 ∷ 20 ∷ 30 ∷ 29 ∷ 30 ∷ 20 ∷ 20 ∷ 20 ∷ []
-unfolding read-codes terms holders fileOf two four all allOf sumOf tabulate decode records onTick tickMultiple termsInRange u8At u16At u32At u64At contractsIn contractFrom accountAt holdingAt listingAt lotsWhere resting bookTrades neverBelowZero startOfDay sameLots sameHoldings contractInRange countersInRange sorted uncrossed rangesKept queuesSorted ordersInRange restingInRange listed allListed usedOnce quotes markAllowed queueQuoted listingQuoted markInRange replays heldInRange holdingInRange holdingsInRange balanceInRange wellFormedContents hasRoom putAccounts putState signedOf savedContract savedHolding savedAccount accountsIn loadedListing loadedAccount loadedFrom countsRight shaped markSound savedSound totalsEqual allEqual loadedState firstOf readCode
+unfolding read-codes terms holders fileOf two four all allOf sumOf tabulate decode records onTick tickMultiple termsInRange u8At u16At u32At u64At contractsIn contractFrom accountAt holdingAt listingAt lotsWhere resting bookTrades neverBelowZero startOfDay sameLots sameHoldings contractInRange countersInRange sorted uncrossed rangesKept queuesSorted ordersInRange restingInRange listed allListed usedOnce quotes markAllowed queueQuoted listingQuoted markInRange replays heldInRange holdingInRange holdingsInRange balanceInRange wellFormedContents hasRoom putAccounts putState signedOf savedContract savedHolding savedAccount savedAccountsIn loadedListing loadedAccount loadedFrom countsRight shaped markSound savedSound totalsEqual allEqual loadedState firstOf readCode
 read-example = refl
 
 -- ---- the state after reading: the second contract's places and counts stay as they were
 
 pub state-after : loadedInto (lent (stateOf 3 9 5)) file .state ≡ stateOf 0 3 1
-unfolding terms holders fileOf tabulate u8At u16At u32At u64At contractsIn contractFrom putAccounts putState signedOf savedContract savedHolding savedAccount accountsIn loadedListing loadedAccount loadedFrom loadedState
+unfolding terms holders fileOf tabulate u8At u16At u32At u64At contractsIn contractFrom putAccounts putState signedOf savedContract savedHolding savedAccount savedAccountsIn loadedListing loadedAccount loadedFrom loadedState
 state-after = refl

@@ -21,7 +21,7 @@ use Rattle.settlement.proofs.Formed.{accounts-declared, contract-at, contracts-
 use Rattle.replaying.specs.Parts.{Booked}
 use Rattle.clients.specs.Parts.{clientTrades, clientsWith}
 use Rattle.statements.specs.Parts.{Brokered, Postable, PostedIs, ToldIs, broker, clientsDay, refusedWith}
-use Rattle.clients.specs.Clients.{Clients, clientAccount, clientExchange, clientPlace, clientTrade, isPosted, legCount, startHolding, startLong, startShort, startsAddUp, total, tradePosted, clientPlaces, maxClients, others}
+use Rattle.clients.specs.Clients.{Clients, clientAccount, clientExchange, clientPlace, clientTrade, isPosted, legCount, clientHolding, startLong, startShort, startsAddUp, total, tradePosted, clientPlaces, maxClients, others}
 use Rattle.statements.specs.declared.Statement.{Statement}
 use Rattle.statements.proofs.Answering.{code-here, code-later, refused-is, same-code}
 use Rattle.clients.proofs.Posted.{client-holding, posted-place, same-price}
@@ -61,11 +61,11 @@ all-sized a clients postings (t ∷ ts) h =
 
 module _ (clients : ℕ) (starts : List ℕ) (few : clients ≤ maxClients) where
   -- past the clients there are none
-  no-lots : (k c : ℕ) → clients ≤ k → k < clientPlaces → c < maxContracts → holdingAt (tabulate clientPlaces (clientAccount (clientsWith clients starts))) k c ≡ startHolding [] k c
+  no-lots : (k c : ℕ) → clients ≤ k → k < clientPlaces → c < maxContracts → holdingAt (tabulate clientPlaces (clientAccount (clientsWith clients starts))) k c ≡ clientHolding [] k c
   unfolding holdingAt accountAt clientAccount
   no-lots k c l lk lc =
       rw (getD-tabulate clientPlaces k (clientAccount (clientsWith clients starts)) noAccount lk, le-ltb k clients l)
-      (getD-tabulate maxContracts c (startHolding [] k) noHolding lc)
+      (getD-tabulate maxContracts c (clientHolding [] k) noHolding lc)
 
   module _ (c long short : ℕ) (lc : c < maxContracts) (el : total clients (λ k. startLong starts k c) ≡ long) (es : total clients (λ k. startShort starts k c) ≡ short)
       (hl : long ≤ maxLimit) (hs : short ≤ maxLimit) where

@@ -28,7 +28,7 @@ use Rattle.sections.proofs.Rows.{length-row, row-ext}
 use Rattle.clients.specs.Parts.{clientsWith}
 use Rattle.replaying.specs.Parts.{Replayable, ReplayIs}
 use Rattle.replaying.proofs.Started.{start-at, used-day}
-use Rattle.statements.specs.Parts.{Brokered, Profitable, Tellable, ToldIs, bookBytes, clientState, clientsDay, refusedWith, told}
+use Rattle.statements.specs.Parts.{Brokered, ProfitsReady, Tellable, ToldIs, bookBytes, clientState, clientsDay, refusedWith, told}
 use Rattle.clients.specs.Clients.{clientAccount, holdingsNow, legCount, legsIn, neverClosesMore, clientPlaces}
 use Rattle.statements.specs.Statement.{profitBytes, profitsBytes, statementOf, tradeBytes, tradesBytes, legWidth, profitWidth}
 use Rattle.replaying.specs.declared.Held.{Held}
@@ -195,7 +195,7 @@ module _ {s : State} {buys sells area starts : List ℕ} {clients legs′ : ℕ}
           };
         }
 
-    pub profitable : Profitable cs buys sells area
+    pub profitable : ProfitsReady cs buys sells area
     profitable = record { priceable = record { few = g .contracts; each = g .priceable }; payable = payable }
 
   -- ---- the statement's length

@@ -27,7 +27,7 @@ use Rattle.statements.specs.Statement.{dayRefusals, postedRefusals, prof
 use Rattle.statements.specs.declared.Statement.{Statement}
 
 -- a state whose contracts can be priced, and whose accounts can be paid at those prices
-pub record Profitable (s : State) (buys sells area : List ℕ) : Type 0 where
+pub record ProfitsReady (s : State) (buys sells area : List ℕ) : Type 0 where
   pub priceable : AllPriceable s buys sells area
   pub payable : AllPayable s area (pricesDue s buys sells area)
 

@@ -216,7 +216,7 @@ fn fillable(area: &[u32; rules::QUEUE_STRIDE], count: usize, limit: u32) -> u64 
         return 0;
     }
     let t = limit_order(false, 1, limit);
-    scan::fillable(area, 0, count, t)
+    scan::fillable_front(area, 0, count, t)
 }
 
 fn print_queue(area: &[u32; rules::QUEUE_STRIDE], count: usize) {

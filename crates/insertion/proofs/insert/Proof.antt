@@ -5,7 +5,7 @@ use denote.Ref.{now}
 use Rattle.rules.specs.Kinds.{codeOf}
 use Rattle.rules.specs.Memory.{exchangeOf, memory}
 use Rattle.rules.specs.declared.Command.the-variants.{Insert}
-use Rattle.engine.specs.Arrival.{Ready}
+use Rattle.engine.specs.Arrival.{ArrivalReady}
 use Rattle.engine.proofs.Decisions.{refusal-decided}
 use Rattle.engine.proofs.Outcomes.{refusal}
 use Rattle.insertion.proofs.Arriving.{arrived-decided}
@@ -28,7 +28,7 @@ abbrev passed : tie.After-arrival-of → tie.Else1
 passed c = c .before .before .before
 
 may-enter : (c : tie.After-arrival-of) → let here = start (passed c .before) in
-    Ready (here .args .state .accounts) (c .arrival-of .result) (now (here .args .buys)) (now (here .args .sells)) (now (here .args .trades))
+    ArrivalReady (here .args .state .accounts) (c .arrival-of .result) (now (here .args .buys)) (now (here .args .sells)) (now (here .args .trades))
 may-enter c =
     let here = start (passed c .before) in
     ready (here .pre .0) (here .args .o) _ _ _ (enterable (here .pre .0) (here .args .o) (accepted (passed c))) (c .arrival-of .ensures)

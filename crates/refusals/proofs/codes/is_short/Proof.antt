@@ -6,6 +6,6 @@ use Rattle.refusals.proofs.codes.is_short.Tie as tie
 
 pub is-short-spec : {M : Type 1} → statement M
 is-short-spec = tie.close (tie.spec
-    (λ c κs. (c .before .pre .queue .few, c .before .pre .queue .room))  -- fillable-requires
+    (λ c κs. (c .before .pre .queue .few, c .before .pre .queue .room))  -- fillable-front-requires
     (λ c κs. search needs)  -- wide64-requires
-    (λ c. rw (c .wide64 .ensures, c .before .fillable .ensures, facing-fillable (c .before .before .before .pre))))  -- returns
+    (λ c. rw (c .wide64 .ensures, c .before .fillable-front .ensures, facing-fillable (c .before .before .before .pre))))  -- returns

@@ -6,12 +6,12 @@ use borrow.Author.Needs.{needs}
 use lib.ListN.{length}
 use Rattle.laws.specs.Lists.{unmapped}
 use Rattle.laws.specs.Written.{Writing, writing-none, writing-more, writing-done}
-use Rattle.statefile.specs.StateFile.{contractPlace, savedContract}
+use Rattle.statefile.specs.StateFile.{savedContract, savedContractPlace}
 use Rattle.saving.proofs.loading.contracts_over.Statement.{statement}
 use Rattle.saving.proofs.loading.contracts_over.Tie as tie
 
 abbrev Inv-loop : tie.InvT-loop
-Inv-loop file n list₀ c₀ list c = Writing (λ i. savedContract file (contractPlace i)) list₀ n c list
+Inv-loop file n list₀ c₀ list c = Writing (λ i. savedContract file (savedContractPlace i)) list₀ n c list
 
 abbrev μ-loop : tie.MeasureT-loop
 μ-loop file n list₀ c₀ list c = n - c

@@ -1,5 +1,5 @@
 -- `shape::account_count` meets its contract. Assumes nothing.
-use Rattle.statefile.specs.StateFile.{accountsIn}
+use Rattle.statefile.specs.StateFile.{savedAccountsIn}
 use borrow.Author.Needs.{needs}
 use Rattle.saving.proofs.shape.account_count.Statement.{statement}
 use Rattle.saving.proofs.shape.account_count.Tie as tie
@@ -17,7 +17,7 @@ cast-result : tie.Need-cast-result
 cast-result c = search needs
 
 returns : tie.Need-returns
-unfolding accountsIn
+unfolding savedAccountsIn
 returns c = rw (← c .before .before .pre .0) (c .u32-at .ensures)
 
 pub account-count-spec : {M : Type 1} → statement M

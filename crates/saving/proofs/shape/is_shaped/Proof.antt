@@ -2,7 +2,7 @@
 use mathlib.Core.Path.{_≡_, refl}
 use native.Mathlib.Omega.{arith}
 use Rattle.rules.specs.DayFile.{contractsIn}
-use Rattle.statefile.specs.StateFile.{accountsIn}
+use Rattle.statefile.specs.StateFile.{savedAccountsIn}
 use Rattle.dayfile.proofs.Places.{contracts-are}
 use Rattle.saving.proofs.Shapes.{accounts-are, decided, laid, length-wrong, no-accounts, no-contracts}
 use borrow.Author.Needs.{needs}
@@ -14,7 +14,7 @@ use Rattle.saving.proofs.shape.is_shaped.Tie as tie
 contracts : (c : tie.Else2) → c .before .before .before .count-before .result ≡ contractsIn (c .before .before .before .before .before .args .file .now)
 contracts c = contracts-are _ (c .before .before .before .count-before .ensures .0) (c .before .before .if1 .left)
 
-accounts : (c : tie.Else2) → c .before .count-before2 .result ≡ accountsIn (c .before .before .before .before .before .args .file .now)
+accounts : (c : tie.Else2) → c .before .count-before2 .result ≡ savedAccountsIn (c .before .before .before .before .before .args .file .now)
 accounts c = accounts-are _ (c .before .before .before .count-before .ensures .0) (c .before .before .if1 .left) refl (c .before .count-before2 .ensures .0) (c .if2 .left)
 
 -- ---- the needs

@@ -8,7 +8,7 @@ use Rattle.laws.specs.Lists.{unmapped}
 use Rattle.laws.specs.Written.{Writing, writing-none, writing-more, writing-done}
 use Rattle.rules.specs.Exchange.{noContract}
 use Rattle.rules.specs.Settlement.{settledContract}
-use Rattle.settlement.proofs.Places.{written-first}
+use Rattle.settlement.proofs.Places.{overwritten-first}
 use Rattle.settlement.proofs.reopen.all_reopened.Statement.{statement}
 use Rattle.settlement.proofs.reopen.all_reopened.Tie as tie
 
@@ -56,7 +56,7 @@ loop-again : tie.Need-loop-again Inv-loop μ-loop
 loop-again c = writing-more _ _ _ (omega (arith, four (c .before .before .before .before))) _ _ _ (c .before .before .loop-test .taken) (c .reopened .ensures) (c .before .before .before .loop .inv)
 
 returns : tie.Need-returns Inv-loop μ-loop
-returns c = writing-done _ _ _ _ _ (c .loop-test .left) (c .before .loop .inv) ∙ sym (written-first _ _ _)
+returns c = writing-done _ _ _ _ _ (c .loop-test .left) (c .before .loop .inv) ∙ sym (overwritten-first _ _ _)
 
 pub all-reopened-spec : {M : Type 1} → statement M
 all-reopened-spec =

@@ -6,7 +6,7 @@ use borrow.Author.Needs.{needs}
 use lib.ListN.{length}
 use Rattle.laws.specs.Lists.{unmapped}
 use Rattle.laws.specs.Written.{Writing, writing-none, writing-more, writing-done}
-use Rattle.settlement.proofs.Places.{written-first}
+use Rattle.settlement.proofs.Places.{overwritten-first}
 use Rattle.settlement.proofs.reopen.no_orders.Statement.{statement}
 use Rattle.settlement.proofs.reopen.no_orders.Tie as tie
 
@@ -39,7 +39,7 @@ loop-again : tie.Need-loop-again Inv-loop μ-loop
 loop-again c = writing-more _ _ _ (omega (arith, four (c .before .before))) _ _ _ (c .loop-test .taken) refl (c .before .loop .inv)
 
 returns : tie.Need-returns Inv-loop μ-loop
-returns c = writing-done _ _ _ _ _ (c .loop-test .left) (c .before .loop .inv) ∙ sym (written-first _ _ _)
+returns c = writing-done _ _ _ _ _ (c .loop-test .left) (c .before .loop .inv) ∙ sym (overwritten-first _ _ _)
 
 pub no-orders-spec : {M : Type 1} → statement M
 no-orders-spec =

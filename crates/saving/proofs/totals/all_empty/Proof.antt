@@ -1,17 +1,17 @@
--- `totals::all_asleep` meets its contract: the contracts before c are asleep. Assumes nothing.
+-- `totals::all_empty` meets its contract: the contracts before c are in pre-open without orders. Assumes nothing.
 use mathlib.Core.Bool.{true}
 use mathlib.Core.Path.{_≡_, sym}
 use Prim.Native.Nat.{_-_, _≤_}
 use native.Mathlib.Omega.{arith}
 use Rattle.laws.specs.Choice.{all, all-more, all-none, all-stop}
 use Rattle.audit.proofs.Walks.{all-end}
-use Rattle.saving.specs.Parts.{asleepAt}
-use Rattle.saving.proofs.AddedUp.{is-asleep, not-pre-open, some-buys, some-sells}
-use Rattle.saving.proofs.totals.all_asleep.Statement.{statement}
-use Rattle.saving.proofs.totals.all_asleep.Tie as tie
+use Rattle.saving.specs.Parts.{emptyPreOpenAt}
+use Rattle.saving.proofs.AddedUp.{is-empty, not-pre-open, some-buys, some-sells}
+use Rattle.saving.proofs.totals.all_empty.Statement.{statement}
+use Rattle.saving.proofs.totals.all_empty.Tie as tie
 
 abbrev Inv-loop : tie.InvT-loop
-Inv-loop state contracts c₀ c = (c ≤ contracts) × (all (asleepAt state) c ≡ true)
+Inv-loop state contracts c₀ c = (c ≤ contracts) × (all (emptyPreOpenAt state) c ≡ true)
 
 abbrev μ-loop : tie.MeasureT-loop
 μ-loop state contracts c₀ c = contracts - c
@@ -53,13 +53,13 @@ loop-less : tie.Need-loop-less Inv-loop μ-loop
 loop-less c = omega arith
 
 loop-again : tie.Need-loop-again Inv-loop μ-loop
-loop-again c = (omega arith, all-more _ _ (c .before .before .before .before .before .before .before .before .loop .inv .1) (is-asleep (c .before .before .before .before .before .before .before .before .before .args .t1) (c .before .before .before .before .before .before .before .before .loop .c) (c .before .before .if1 .left) (c .before .if2 .left) (c .if3 .left)))
+loop-again c = (omega arith, all-more _ _ (c .before .before .before .before .before .before .before .before .loop .inv .1) (is-empty (c .before .before .before .before .before .before .before .before .before .args .t1) (c .before .before .before .before .before .before .before .before .loop .c) (c .before .before .if1 .left) (c .before .if2 .left) (c .if3 .left)))
 
 returns-4 : tie.Need-returns-4 Inv-loop μ-loop
 returns-4 c = all-end _ (c .before .loop .inv .1) (c .before .loop .inv .0) (c .loop-test .left)
 
-pub all-asleep-spec : {M : Type 1} → statement M
-all-asleep-spec =
+pub all-empty-spec : {M : Type 1} → statement M
+all-empty-spec =
     tie.close
     (tie.spec
     Inv-loop

@@ -1,4 +1,4 @@
--- `book::scan::fillable` meets its contract. The invariant: the lots so far, and those from order i on, are the answer; and no
+-- `book::scan::fillable_front` meets its contract. The invariant: the lots so far, and those from order i on, are the answer; and no
 -- order adds more than its word holds, so the sum of 64 fits. Assumes nothing.
 use mathlib.Core.Path.{_≡_}
 use Prim.Native.Nat.{_+_, _-_, _*_, _≤_}
@@ -11,8 +11,8 @@ use Rattle.book.specs.EarlyStop.{fillableFront}
 use Rattle.rules.specs.Memory.{queueIn}
 use Rattle.book.proofs.Queues.{tally-on, tally-stop, tally-end}
 use Rattle.book.proofs.Scans.{test-failed, test-passed, fillable-on}
-use Rattle.book.proofs.scan.fillable.Statement.{statement}
-use Rattle.book.proofs.scan.fillable.Tie as tie
+use Rattle.book.proofs.scan.fillable_front.Statement.{statement}
+use Rattle.book.proofs.scan.fillable_front.Tie as tie
 
 abbrev Inv-loop : tie.InvT-loop
 Inv-loop area c count t condition lots₀ i₀ lots i =
@@ -40,8 +40,8 @@ loop-again c =
       ),
     )
 
-pub fillable-spec : {M : Type 1} → statement M
-fillable-spec = tie.close (tie.spec
+pub fillable-front-spec : {M : Type 1} → statement M
+fillable-front-spec = tie.close (tie.spec
     Inv-loop
     μ-loop
     (λ c. (omega arith, (omega arith, zero-add _)))  -- loop-holds

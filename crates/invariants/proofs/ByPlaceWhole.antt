@@ -1,11 +1,11 @@
--- What `Told` tells is all there is: two memories that it tells of are one. Assumes nothing.
+-- `WrittenByPlace` says all: two memories of which it says the same are one. Assumes nothing.
 use lib.Seq.{ext-getD}
 use Rattle.laws.specs.Logic.{Bool, true, false, List, _≡_, sym, ap, _∙_}
 use Rattle.laws.specs.Numbers.{ℕ, _+_, _*_, _/_, _%_, _<_, arith, length, getD}
 use Rattle.rules.specs.Bounds.{maxResting, maxAccounts}
 use Rattle.rules.specs.Exchange.{Exchange, accountAt, holdingAt, noAccount, noContract, noHolding}
 use Rattle.rules.specs.Memory.{Memory, firstWord, orderStride, queueStride, tradeStride}
-use Rattle.invariants.specs.ByPlace.{Told, areaOf, countsOf}
+use Rattle.invariants.specs.ByPlace.{WrittenByPlace, areaOf, countsOf}
 
 -- each word of a queue area is one of a place of a contract
 queue-word : (k : ℕ) → k ≡ firstWord (k / queueStride) (k % queueStride / orderStride) + k % queueStride % orderStride
@@ -20,7 +20,7 @@ place-of-word k = (omega arith, omega arith)
 
 -- ---- two memories told alike
 
-module _ (m : Memory) (held : List Exchange) (x : Exchange) (n p : Memory) (s : Told m held x n) (t : Told m held x p) where
+module _ (m : Memory) (held : List Exchange) (x : Exchange) (n p : Memory) (s : WrittenByPlace m held x n) (t : WrittenByPlace m held x p) where
   same-area : (sell : Bool) → areaOf sell n ≡ areaOf sell p
   same-area sell = ext-getD 0 (areaOf sell n) (areaOf sell p) (s .room sell ∙ sym (t .room sell)) (λ k h. word k)
     where
@@ -101,8 +101,8 @@ module _ (m : Memory) (held : List Exchange) (x : Exchange) (n p : Memory) (s : 
       }
 
   -- NOTHING IS LEFT UNTOLD
-  pub told-whole : n ≡ p
-  told-whole =
+  pub by-place-whole : n ≡ p
+  by-place-whole =
       let buys = same-area false in
       let sells = same-area true in
       λ i. record { state = same-state i; buys = buys i; sells = sells i; trades = same-trades i }

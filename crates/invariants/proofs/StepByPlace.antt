@@ -18,7 +18,7 @@ use Rattle.accounting.specs.Shape.{Shaped}
 use Rattle.accounting.proofs.Declared.{Counts, counted-shaped, put-declared, shaped-fits}
 use Rattle.accounting.proofs.EachKind.{kind-shape}
 use Rattle.accounting.proofs.StepShape.{SameShape, same-shape}
-use Rattle.invariants.specs.ByPlace.{Told, areaOf, byPlace, countsOf, inOne, known, listed, made, rests}
+use Rattle.invariants.specs.ByPlace.{WrittenByPlace, accountInUse, areaOf, byPlace, contractInUse, countsOf, inOne, orderInUse, tradeInUse}
 use Rattle.invariants.proofs.Clauses.{Counted}
 use Rattle.invariants.proofs.EachKind.{kind-counted}
 use Rattle.invariants.proofs.MemoryKeeps.{Writable, both-each, counted, shaped-as, sound}
@@ -88,7 +88,7 @@ module _ (m : Memory) (counts : CountsOk (m .state)) (room : RoomOk m) (arrays :
   not-listed y c h = List·getD-eq-default (y .listings) noListing {n = c} h
 
   -- a side's area, its counts, and which of a listing's queues it holds
-  side-told : (area cs : List ℕ) (side : Listing → List Order) → side noListing ≡ [] → ((c : ℕ) → length (side (listingIn m c)) ≡ getD cs c 0) →
+  side-by-place : (area cs : List ℕ) (side : Listing → List Order) → side noListing ≡ [] → ((c : ℕ) → length (side (listingIn m c)) ≡ getD cs c 0) →
       ((c : ℕ) → c < m .state .contractcount → getD cs c 0 ≤ maxResting) →
       ((c : ℕ) → c < m .state .contractcount → length (side (listingAt x c)) ≤ maxResting) →
       queueStride * m .state .contractcount ≤ length area →
@@ -96,24 +96,24 @@ module _ (m : Memory) (counts : CountsOk (m .state)) (room : RoomOk m) (arrays :
       getD (putQueues area cs (λ c. side (listingAt x c)) (m .state .contractcount)) (firstWord c i + word) 0
       ≡ byPlace (ltb i (length (side (listingAt x c)))) (inOne (λ y. ltb i (length (side (listingAt y c)))) (exchangeOf m ∷ []))
       (wordOf word (getD (side (listingAt x c)) i noOrder)) (getD area (firstWord c i + word) 0)
-  side-told area cs side none counted before after fits c i word place b = by-listed (ltb c (m .state .contractcount)) refl
+  side-by-place area cs side none counted before after fits c i word place b = by-listed (ltb c (m .state .contractcount)) refl
     where
       inPlace : Exchange → Bool
       inPlace y = ltb i (length (side (listingAt y c)))
 
-      told : Bool → ℕ → ℕ
-      told t was = byPlace (inPlace x) t (wordOf word (getD (side (listingAt x c)) i noOrder)) was
+      wordAt : Bool → ℕ → ℕ
+      wordAt t was = byPlace (inPlace x) t (wordOf word (getD (side (listingAt x c)) i noOrder)) was
 
       empty : (y : Exchange) → length (y .listings) ≤ c → inPlace y ≡ false
       empty y h = ap (λ (l : Listing). ltb i (length (side l))) (not-listed y c h) ∙ ap (λ (q : List Order). ltb i (length q)) none ∙ le-ltb i 0 (omega arith)
 
       by-listed : (t : Bool) → ltb c (m .state .contractcount) ≡ t →
           getD (putQueues area cs (λ c. side (listingAt x c)) (m .state .contractcount)) (firstWord c i + word) 0
-          ≡ told (inOne inPlace (exchangeOf m ∷ [])) (getD area (firstWord c i + word) 0)
+          ≡ wordAt (inOne inPlace (exchangeOf m ∷ [])) (getD area (firstWord c i + word) 0)
       by-listed true e =
           let h = ltb-true c (m .state .contractcount) e in
           word-putQueues area cs (λ c. side (listingAt x c)) (m .state .contractcount) before after fits i word place b (m .state .contractcount) c (le-refl _) h
-          ∙ ap (λ (t : Bool). told t (getD area (firstWord c i + word) 0))
+          ∙ ap (λ (t : Bool). wordAt t (getD area (firstWord c i + word) 0))
           (sym (in-the-one inPlace (exchangeOf m) ∙ ap (λ (n : ℕ). ltb i n) (ap (λ (l : Listing). length (side l)) (listing-in-use m c h) ∙ counted c)))
       by-listed false e =
           let h = ltb-false c (m .state .contractcount) e in
@@ -122,72 +122,72 @@ module _ (m : Memory) (counts : CountsOk (m .state)) (room : RoomOk m) (arrays :
           (getD area (firstWord c i + word) 0) (empty x (omega (arith, contracts)))
           (in-the-one inPlace (exchangeOf m) ∙ empty (exchangeOf m) (omega (arith, contracts-in-use m)))
 
-  orders-told : (sell : Bool) (c i word : ℕ) → i < maxResting → word < orderStride → getD (areaOf sell (put m x)) (firstWord c i + word) 0
-      ≡ byPlace (rests sell c i x) (inOne (rests sell c i) (exchangeOf m ∷ [])) (wordOf word (getD (own sell (listingAt x c)) i noOrder))
+  orders-by-place : (sell : Bool) (c i word : ℕ) → i < maxResting → word < orderStride → getD (areaOf sell (put m x)) (firstWord c i + word) 0
+      ≡ byPlace (orderInUse sell c i x) (inOne (orderInUse sell c i) (exchangeOf m ∷ [])) (wordOf word (getD (own sell (listingAt x c)) i noOrder))
       (getD (areaOf sell m) (firstWord c i + word) 0)
   unfolding put listingIn
-  orders-told true =
-      side-told (m .sells) (m .state .sellcounts) (λ l. l .sells) refl (λ c. length-queue (m .sells) c (getD (m .state .sellcounts) c 0)) (counts .sells)
+  orders-by-place true =
+      side-by-place (m .sells) (m .state .sellcounts) (λ l. l .sells) refl (λ c. length-queue (m .sells) c (getD (m .state .sellcounts) c 0)) (counts .sells)
       (λ c l. few .queues c true (rw contracts l)) (room .sells)
-  orders-told false =
-      side-told (m .buys) (m .state .buycounts) (λ l. l .buys) refl (λ c. length-queue (m .buys) c (getD (m .state .buycounts) c 0)) (counts .buys)
+  orders-by-place false =
+      side-by-place (m .buys) (m .state .buycounts) (λ l. l .buys) refl (λ c. length-queue (m .buys) c (getD (m .state .buycounts) c 0)) (counts .buys)
       (λ c l. few .queues c false (rw contracts l)) (room .buys)
 
-  trades-told : (i word : ℕ) → word < tradeStride → getD (put m x .trades) (tradeStride * i + word) 0
-      ≡ byPlace (made i x) (inOne (made i) (exchangeOf m ∷ [])) (getD (tradeWords (getD (x .trades) i noTrade)) word 0)
+  trades-by-place : (i word : ℕ) → word < tradeStride → getD (put m x .trades) (tradeStride * i + word) 0
+      ≡ byPlace (tradeInUse i x) (inOne (tradeInUse i) (exchangeOf m ∷ [])) (getD (tradeWords (getD (x .trades) i noTrade)) word 0)
       (getD (m .trades) (tradeStride * i + word) 0)
   unfolding put exchangeOf
-  trades-told i word b =
+  trades-by-place i word b =
       word-putTrades (m .trades) (m .state .tradecount) (x .trades) i word b ∙ ap
-      (λ (t : Bool). byPlace (made i x) t (getD (tradeWords (getD (x .trades) i noTrade)) word 0) (getD (m .trades) (tradeStride * i + word) 0))
-      (sym (in-the-one (made i) (exchangeOf m) ∙ ap (λ (n : ℕ). ltb i n) (length-trades (m .trades) (m .state .tradecount))))
+      (λ (t : Bool). byPlace (tradeInUse i x) t (getD (tradeWords (getD (x .trades) i noTrade)) word 0) (getD (m .trades) (tradeStride * i + word) 0))
+      (sym (in-the-one (tradeInUse i) (exchangeOf m) ∙ ap (λ (n : ℕ). ltb i n) (length-trades (m .trades) (m .state .tradecount))))
 
-  counts-told : (sell : Bool) (c : ℕ) →
-      getD (countsOf sell (put m x)) c 0 ≡ pick (listed c x) (length (own sell (listingAt x c))) (getD (countsOf sell m) c 0)
+  counts-by-place : (sell : Bool) (c : ℕ) →
+      getD (countsOf sell (put m x)) c 0 ≡ pick (contractInUse c x) (length (own sell (listingAt x c))) (getD (countsOf sell m) c 0)
   unfolding put putState listingAt
-  counts-told true = first-by-place (λ l. length (l .sells)) (x .listings) (m .state .sellcounts)
-  counts-told false = first-by-place (λ l. length (l .buys)) (x .listings) (m .state .buycounts)
+  counts-by-place true = first-by-place (λ l. length (l .sells)) (x .listings) (m .state .sellcounts)
+  counts-by-place false = first-by-place (λ l. length (l .buys)) (x .listings) (m .state .buycounts)
 
   -- the accounts have their places
   accounts-fit : length (x .accounts) ≤ length (m .state .accounts)
   accounts-fit = omega (arith, shaped-fits m arrays few-contracts x shape .accounts, arrays .accounts)
 
-  account-written : (a : ℕ) → known a x ≡ true →
+  account-written : (a : ℕ) → accountInUse a x ≡ true →
       accountAt (put m x .state .accounts) a ≡ putAccount (accountAt (x .accounts) a) (accountAt (m .state .accounts) a)
   unfolding put putState accountAt
   account-written a e = account-put (x .accounts) (m .state .accounts) a accounts-fit (ltb-true a (length (x .accounts)) e)
 
-  account-unaltered : (a : ℕ) → known a x ≡ false → accountAt (put m x .state .accounts) a ≡ accountAt (m .state .accounts) a
+  account-unaltered : (a : ℕ) → accountInUse a x ≡ false → accountAt (put m x .state .accounts) a ≡ accountAt (m .state .accounts) a
   unfolding put putState accountAt
   account-unaltered a e = account-kept (x .accounts) (m .state .accounts) a accounts-fit (ltb-false a (length (x .accounts)) e)
 
   -- what is not a holding
-  field-told : {A : Type 0} (f : Account → A) → ((v room : Account) → f (putAccount v room) ≡ f v) → (a : ℕ) →
-      f (accountAt (put m x .state .accounts) a) ≡ pick (known a x) (f (accountAt (x .accounts) a)) (f (accountAt (m .state .accounts) a))
-  field-told {A} f own′ a = by-known (known a x) refl
+  field-by-place : {A : Type 0} (f : Account → A) → ((v room : Account) → f (putAccount v room) ≡ f v) → (a : ℕ) →
+      f (accountAt (put m x .state .accounts) a) ≡ pick (accountInUse a x) (f (accountAt (x .accounts) a)) (f (accountAt (m .state .accounts) a))
+  field-by-place {A} f own′ a = by-known (accountInUse a x) refl
     where
-      by-known : (t : Bool) → known a x ≡ t →
+      by-known : (t : Bool) → accountInUse a x ≡ t →
           f (accountAt (put m x .state .accounts) a) ≡ pick t (f (accountAt (x .accounts) a)) (f (accountAt (m .state .accounts) a))
       by-known true e = ap f (account-written a e) ∙ own′ (accountAt (x .accounts) a) (accountAt (m .state .accounts) a)
       by-known false e = ap f (account-unaltered a e)
 
   -- an account in use holds in each contract in use
-  wide : (a : ℕ) → known a x ≡ true → length (accountAt (x .accounts) a .holdings) ≡ length (x .listings)
+  wide : (a : ℕ) → accountInUse a x ≡ true → length (accountAt (x .accounts) a .holdings) ≡ length (x .listings)
   unfolding Shaped
   wide a e =
       let l : a < length (exchangeOf m .accounts) = rw (shape .accounts) at (ltb-true a (length (x .accounts)) e) in
       shape .wide a l ∙ counted-shaped m arrays few-contracts a l ∙ sym (shape .listings)
 
-  holdings-told : (a c : ℕ) → holdingAt (put m x .state .accounts) a c
-      ≡ pick (known a x && listed c x) (holdingAt (x .accounts) a c) (holdingAt (m .state .accounts) a c)
+  holdings-by-place : (a c : ℕ) → holdingAt (put m x .state .accounts) a c
+      ≡ pick (accountInUse a x && contractInUse c x) (holdingAt (x .accounts) a c) (holdingAt (m .state .accounts) a c)
   unfolding holdingAt
-  holdings-told a c = by-known-and-listed (known a x) (listed c x) refl refl
+  holdings-by-place a c = by-known-and-listed (accountInUse a x) (contractInUse c x) refl refl
     where
-      in-account : known a x ≡ true → holdingAt (put m x .state .accounts) a c
+      in-account : accountInUse a x ≡ true → holdingAt (put m x .state .accounts) a c
           ≡ getD (putFirst (accountAt (x .accounts) a .holdings) (accountAt (m .state .accounts) a .holdings)) c noHolding
       in-account e = ap (λ (v : Account). getD (v .holdings) c noHolding) (account-written a e)
 
-      by-known-and-listed : (s t : Bool) → known a x ≡ s → listed c x ≡ t →
+      by-known-and-listed : (s t : Bool) → accountInUse a x ≡ s → contractInUse c x ≡ t →
           holdingAt (put m x .state .accounts) a c ≡ pick (s && t) (holdingAt (x .accounts) a c) (holdingAt (m .state .accounts) a c)
       by-known-and-listed true true p q =
           in-account p
@@ -198,37 +198,37 @@ module _ (m : Memory) (counts : CountsOk (m .state)) (room : RoomOk m) (arrays :
           (rw (wide a p) (ltb-false c (length (x .listings)) q))
       by-known-and-listed false t p q = ap (λ (v : Account). getD (v .holdings) c noHolding) (account-unaltered a p)
 
-  lengths-told : (sell : Bool) → length (areaOf sell (put m x)) ≡ length (areaOf sell m)
-  lengths-told true = length-sells m counts room x shape few
-  lengths-told false = length-buys m counts room x shape few
+  lengths-by-place : (sell : Bool) → length (areaOf sell (put m x)) ≡ length (areaOf sell m)
+  lengths-by-place true = length-sells m counts room x shape few
+  lengths-by-place false = length-buys m counts room x shape few
 
   -- A STATE WRITTEN OVER A MEMORY
-  pub written-told : Told m (exchangeOf m ∷ []) x (put m x)
+  pub written-by-place : WrittenByPlace m (exchangeOf m ∷ []) x (put m x)
   unfolding put putState listingAt
-  written-told =
+  written-by-place =
       record {
-        orders = orders-told;
-        trades = trades-told;
+        orders = orders-by-place;
+        trades = trades-by-place;
         contracts = first-by-place (λ l. l .contract) (x .listings) (m .state .contracts);
-        counts = counts-told;
-        balances = field-told (λ v. v .balance) (λ v r. refl);
-        makers = field-told (λ v. v .maker) (λ v r. refl);
-        holdings = holdings-told;
+        counts = counts-by-place;
+        balances = field-by-place (λ v. v .balance) (λ v r. refl);
+        makers = field-by-place (λ v. v .maker) (λ v r. refl);
+        holdings = holdings-by-place;
         contractcount = refl;
         accountcount = refl;
         tradecount = refl;
         next = refl;
         nextstamp = refl;
         settlements = refl;
-        room = lengths-told;
+        room = lengths-by-place;
         traderoom = length-tradeArea m counts room x shape few;
         declared = put-declared m arrays x (shaped-fits m arrays few-contracts x shape);
       }
 
 -- WHAT `put` LEAVES AT EACH PLACE: new, zero, or as it was
-pub put-told : (m : Memory) → wellFormedMemory m ≡ true → Declared (m .state) → (x : Exchange) → SameShape (exchangeOf m) x → Counted x →
-    Told m (exchangeOf m ∷ []) x (put m x)
-put-told m w arrays x shape few = let k = memory-ok m w in written-told m (k .counts) (k .room) arrays x shape few
+pub put-by-place : (m : Memory) → wellFormedMemory m ≡ true → Declared (m .state) → (x : Exchange) → SameShape (exchangeOf m) x → Counted x →
+    WrittenByPlace m (exchangeOf m ∷ []) x (put m x)
+put-by-place m w arrays x shape few = let k = memory-ok m w in written-by-place m (k .counts) (k .room) arrays x shape few
 
 -- ---- one write after another
 
@@ -248,40 +248,40 @@ value-again : {A : Type 0} (z y : Bool) (value between was : A) → z ≡ y → 
 value-again true y value between was e = refl
 value-again false y value between was e = rw (← e) refl
 
-module _ (m : Memory) (x y z : Exchange) (others : List Exchange) (m′ m″ : Memory) (shape : SameShape y z) (first : Told m (x ∷ []) y m′) (second : Told m′ (y ∷ others) z m″) where
-  same-listed : (c : ℕ) → listed c z ≡ listed c y
+module _ (m : Memory) (x y z : Exchange) (others : List Exchange) (m′ m″ : Memory) (shape : SameShape y z) (first : WrittenByPlace m (x ∷ []) y m′) (second : WrittenByPlace m′ (y ∷ others) z m″) where
+  same-listed : (c : ℕ) → contractInUse c z ≡ contractInUse c y
   same-listed c = ap (λ (n : ℕ). ltb c n) (shape .listings)
 
-  same-known : (a : ℕ) → known a z ≡ known a y
+  same-known : (a : ℕ) → accountInUse a z ≡ accountInUse a y
   same-known a = ap (λ (n : ℕ). ltb a n) (shape .accounts)
 
-  told-again : Told m (x ∷ y ∷ others) z m″
-  told-again =
+  by-place-again : WrittenByPlace m (x ∷ y ∷ others) z m″
+  by-place-again =
       record {
         orders = λ sell c i word place b.
             second .orders sell c i word place b
-            ∙ ap (byPlace (rests sell c i z) (inOne (rests sell c i) (y ∷ others)) (wordOf word (getD (own sell (listingAt z c)) i noOrder)))
+            ∙ ap (byPlace (orderInUse sell c i z) (inOne (orderInUse sell c i) (y ∷ others)) (wordOf word (getD (own sell (listingAt z c)) i noOrder)))
             (first .orders sell c i word place b)
-            ∙ word-again (rests sell c i z) (rests sell c i y) (rests sell c i x) (inOne (rests sell c i) others) _ _ _;
+            ∙ word-again (orderInUse sell c i z) (orderInUse sell c i y) (orderInUse sell c i x) (inOne (orderInUse sell c i) others) _ _ _;
         trades = λ i word b.
             second .trades i word b
-            ∙ ap (byPlace (made i z) (inOne (made i) (y ∷ others)) (getD (tradeWords (getD (z .trades) i noTrade)) word 0)) (first .trades i word b)
-            ∙ word-again (made i z) (made i y) (made i x) (inOne (made i) others) _ _ _;
+            ∙ ap (byPlace (tradeInUse i z) (inOne (tradeInUse i) (y ∷ others)) (getD (tradeWords (getD (z .trades) i noTrade)) word 0)) (first .trades i word b)
+            ∙ word-again (tradeInUse i z) (tradeInUse i y) (tradeInUse i x) (inOne (tradeInUse i) others) _ _ _;
         contracts = λ c.
-            second .contracts c ∙ ap (λ v. pick (listed c z) (listingAt z c .contract) v) (first .contracts c)
-            ∙ value-again (listed c z) (listed c y) _ _ _ (same-listed c);
+            second .contracts c ∙ ap (λ v. pick (contractInUse c z) (listingAt z c .contract) v) (first .contracts c)
+            ∙ value-again (contractInUse c z) (contractInUse c y) _ _ _ (same-listed c);
         counts = λ sell c.
-            second .counts sell c ∙ ap (λ v. pick (listed c z) (length (own sell (listingAt z c))) v) (first .counts sell c)
-            ∙ value-again (listed c z) (listed c y) _ _ _ (same-listed c);
+            second .counts sell c ∙ ap (λ v. pick (contractInUse c z) (length (own sell (listingAt z c))) v) (first .counts sell c)
+            ∙ value-again (contractInUse c z) (contractInUse c y) _ _ _ (same-listed c);
         balances = λ a.
-            second .balances a ∙ ap (λ v. pick (known a z) (accountAt (z .accounts) a .balance) v) (first .balances a)
-            ∙ value-again (known a z) (known a y) _ _ _ (same-known a);
+            second .balances a ∙ ap (λ v. pick (accountInUse a z) (accountAt (z .accounts) a .balance) v) (first .balances a)
+            ∙ value-again (accountInUse a z) (accountInUse a y) _ _ _ (same-known a);
         makers = λ a.
-            second .makers a ∙ ap (λ v. pick (known a z) (accountAt (z .accounts) a .maker) v) (first .makers a)
-            ∙ value-again (known a z) (known a y) _ _ _ (same-known a);
+            second .makers a ∙ ap (λ v. pick (accountInUse a z) (accountAt (z .accounts) a .maker) v) (first .makers a)
+            ∙ value-again (accountInUse a z) (accountInUse a y) _ _ _ (same-known a);
         holdings = λ a c.
-            second .holdings a c ∙ ap (λ v. pick (known a z && listed c z) (holdingAt (z .accounts) a c) v) (first .holdings a c)
-            ∙ value-again (known a z && listed c z) (known a y && listed c y) _ _ _ (ap₂ (λ (s t : Bool). s && t) (same-known a) (same-listed c));
+            second .holdings a c ∙ ap (λ v. pick (accountInUse a z && contractInUse c z) (holdingAt (z .accounts) a c) v) (first .holdings a c)
+            ∙ value-again (accountInUse a z && contractInUse c z) (accountInUse a y && contractInUse c y) _ _ _ (ap₂ (λ (s t : Bool). s && t) (same-known a) (same-listed c));
         contractcount = second .contractcount ∙ first .contractcount;
         accountcount = second .accountcount ∙ first .accountcount;
         tradecount = second .tradecount;
@@ -294,19 +294,19 @@ module _ (m : Memory) (x y z : Exchange) (others : List Exchange) (m′ m″ : M
       }
 
 -- the stages of a command, each written over the last: with none, what is read is told of the memory as it is
-stages-told : (m : Memory) → CountsOk (m .state) → RoomOk m → Declared (m .state) → (ys : List Exchange) → Each (Writable (exchangeOf m)) ys →
-    Told m (exchangeOf m ∷ ys) (lastOf (exchangeOf m) ys) (written m ys)
-stages-told m k r d [] h =
-    subst (λ (m′ : Memory). Told m (exchangeOf m ∷ []) (exchangeOf m) m′) (put-same m k r d)
-    (written-told m k r d (exchangeOf m) (same-shape (exchangeOf m)) (counted m k))
-stages-told m k r d (y ∷ ys) h =
+stages-by-place : (m : Memory) → CountsOk (m .state) → RoomOk m → Declared (m .state) → (ys : List Exchange) → Each (Writable (exchangeOf m)) ys →
+    WrittenByPlace m (exchangeOf m ∷ ys) (lastOf (exchangeOf m) ys) (written m ys)
+stages-by-place m k r d [] h =
+    subst (λ (m′ : Memory). WrittenByPlace m (exchangeOf m ∷ []) (exchangeOf m) m′) (put-same m k r d)
+    (written-by-place m k r d (exchangeOf m) (same-shape (exchangeOf m)) (counted m k))
+stages-by-place m k r d (y ∷ ys) h =
     let s : SameShape (exchangeOf m) y = h .0 .0 in
     let n : Counted y = h .0 .1 in
     let read : exchangeOf (put m y) ≡ y = exchange-put m k r y s n in
-    let first = written-told m k r d y s n in
+    let first = written-by-place m k r d y s n in
     let later : Each (Writable y) ys = shaped-as (exchangeOf m) y s ys (h .1) in
-    let rest = stages-told (put m y) (put-counts m k r y s n) (put-room m k r y s n) (first .declared) ys (rw read later) in
-    told-again m (exchangeOf m) y (lastOf y ys) ys (put m y) (written (put m y) ys) (each-last (SameShape y) y ys (same-shape y) (shapes y ys later)) first
+    let rest = stages-by-place (put m y) (put-counts m k r y s n) (put-room m k r y s n) (first .declared) ys (rw read later) in
+    by-place-again m (exchangeOf m) y (lastOf y ys) ys (put m y) (written (put m y) ys) (each-last (SameShape y) y ys (same-shape y) (shapes y ys later)) first
     (rw read at rest)
   where
     shapes : (y : Exchange) (zs : List Exchange) → Each (Writable y) zs → Each (SameShape y) zs
@@ -315,13 +315,13 @@ stages-told m k r d (y ∷ ys) h =
 
 -- EVERY COMMAND, on any well-formed state: the places in use after it are the rules', places that were in use before it or between its
 -- steps are zero, and every other is as it was
-pub step-told : (m : Memory) → wellFormedMemory m ≡ true → Declared (m .state) → (c : Command) →
-    Told m (exchangeOf m ∷ decide (exchangeOf m) c .stages) (step (exchangeOf m) c) (respond m c .memory)
+pub step-by-place : (m : Memory) → wellFormedMemory m ≡ true → Declared (m .state) → (c : Command) →
+    WrittenByPlace m (exchangeOf m ∷ decide (exchangeOf m) c .stages) (step (exchangeOf m) c) (respond m c .memory)
 unfolding respond stepIn step
-step-told m w d c =
+step-by-place m w d c =
     let k = memory-ok m w in
     rw w
-    (decided (λ e. Told m (exchangeOf m ∷ e .stages) (lastOf (exchangeOf m) (e .stages)) (written m (e .stages))) (exchangeOf m) c
-    (λ e. stages-told m (k .counts) (k .room) d (kindOf (exchangeOf m) c .effect .stages)
+    (decided (λ e. WrittenByPlace m (exchangeOf m ∷ e .stages) (lastOf (exchangeOf m) (e .stages)) (written m (e .stages))) (exchangeOf m) c
+    (λ e. stages-by-place m (k .counts) (k .room) d (kindOf (exchangeOf m) c .effect .stages)
     (both-each (exchangeOf m) (kindOf (exchangeOf m) c .effect .stages) (kind-shape (exchangeOf m) c) (kind-counted (exchangeOf m) c (sound m w) e)))
-    (λ e. stages-told m (k .counts) (k .room) d [] tt))
+    (λ e. stages-by-place m (k .counts) (k .room) d [] tt))
