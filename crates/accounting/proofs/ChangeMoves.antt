@@ -6,8 +6,8 @@ use Rattle.rules.specs.Change.{Asked, arriving, changeTrades, changed, gone, pl
 use Rattle.rules.specs.Exchange.{Exchange, Listing, listingAt, listingNamed, noListing, placeOf}
 use Rattle.rules.specs.Kinds.{makes, lastOf}
 use Rattle.rules.specs.Step.{cancelled, exchangeAfter, hasNumber, listingAfter, listingWithout, removed}
-use Rattle.rules.proofs.Changes.{changed-either, lost-once}
-use Rattle.rules.proofs.Stages.{Each}
+use Rattle.theory.proofs.Changes.{changed-either, lost-once}
+use Rattle.theory.proofs.Stages.{Each}
 use Rattle.accounting.proofs.StepMoves.{Makes, nothing-moves, same-listing, traded-moves}
 use Rattle.accounting.proofs.StepShape.{SameShape, entered-shape, listing-replaced, shape-trans}
 

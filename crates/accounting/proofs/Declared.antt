@@ -11,8 +11,8 @@ use Rattle.rules.specs.Kinds.{kindOf}
 use Rattle.rules.specs.Memory.{Memory, Declared, inUse, exchangeOf, putFirst, putAccounts, putState, put, countsInRange, hasRoom, wellFormedMemory, written, stepIn, respond}
 use Rattle.rules.specs.WellFormed.{wellFormedContents}
 use Rattle.rules.specs.declared.{Account.Account, Command.Command, State.State}
-use Rattle.rules.proofs.InUse.{account-in-use, contracts-in-use}
-use Rattle.rules.proofs.Stages.{decided, Each}
+use Rattle.theory.proofs.InUse.{account-in-use, contracts-in-use}
+use Rattle.theory.proofs.Stages.{decided, Each}
 use Rattle.accounting.specs.Shape.{Shaped}
 use Rattle.accounting.proofs.EachKind.{kind-shape}
 use Rattle.accounting.proofs.StepShape.{SameShape}

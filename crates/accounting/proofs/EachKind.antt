@@ -11,7 +11,7 @@ use Rattle.rules.specs.Step.{deposited, withdrawn, enteredOf, inserted, removed
 use Rattle.rules.specs.WellFormed.{replays}
 use Rattle.rules.specs.declared.Command.{Command}
 use Rattle.rules.specs.declared.Command.the-variants.{Malformed, Deposit, Withdraw, Insert, Cancel, Pull, Phase, Settle, Quote, Change}
-use Rattle.rules.proofs.Stages.{decided, Each, each-last}
+use Rattle.theory.proofs.Stages.{decided, Each, each-last}
 use Rattle.accounting.specs.Shape.{Shaped}
 use Rattle.accounting.proofs.ChangeMoves.{changed-shape, changed-moves}
 use Rattle.accounting.proofs.QuoteMoves.{quoted-shape, quoted-moves}

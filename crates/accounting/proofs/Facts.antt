@@ -8,7 +8,7 @@ use Rattle.rules.specs.Bounds.{within, onTick, dayLow, dayHigh, allowedToday, m
 use Rattle.rules.specs.Exchange.{Exchange, Listing, noListing, listingAt, holdingAt, restingOpens, restingCloses}
 use Rattle.rules.specs.WellFormed.{countersInRange, contractInRange, markInRange, rangesKept, queuesSorted, orderInRange, ordersInRange, allNumbers, allStamps, usedOnce, listingQuoted, restingInRange, tradeInRange, replays, heldInRange, holdingInRange, holdingsInRange, balanceInRange, wellFormedContents}
 use Rattle.rules.specs.declared.{Contract.Contract, Holding.Holding, Order.Order, Trade.Trade}
-use Rattle.rules.proofs.Terms.{Terms, contract-terms}
+use Rattle.theory.proofs.Terms.{Terms, contract-terms}
 use Rattle.accounting.specs.Money.{AllKnown}
 
 -- ---- prices

@@ -5,7 +5,7 @@ use Rattle.rules.specs.Exchange.{Exchange, placeOf}
 use Rattle.rules.specs.Kinds.{makes, lastOf}
 use Rattle.rules.specs.Quote.{Offered, buyEntered, buyOf, quoteTrades, quoted, sellEntered, sellOf, withBuy, withSell, withoutQuote}
 use Rattle.rules.specs.declared.Trade.{Trade}
-use Rattle.rules.proofs.Stages.{Each}
+use Rattle.theory.proofs.Stages.{Each}
 use Rattle.accounting.specs.Books.{after, booksOf}
 use Rattle.accounting.proofs.StepMoves.{Makes, entered-moves, same-listing}
 use Rattle.accounting.proofs.StepShape.{SameShape, entered-shape, listing-replaced, shape-trans}

@@ -13,7 +13,7 @@ use Rattle.rules.specs.Kinds.{Move, paysIn, paysOut, makes, settles, codeOf, st
 use Rattle.rules.specs.Memory.{Memory, exchangeOf, Declared, countsInRange, hasRoom, wellFormedMemory, stepIn, respond}
 use Rattle.rules.specs.WellFormed.{wellFormedContents}
 use Rattle.rules.specs.declared.Command.{Command}
-use Rattle.rules.proofs.Stages.{decided}
+use Rattle.theory.proofs.Stages.{decided}
 use Rattle.accounting.specs.Books.{booksOf, Reached, stay, move, paidBy, paid, position}
 use Rattle.accounting.specs.Money.{netNow, AllKnown}
 use Rattle.accounting.specs.Shape.{Shaped}

@@ -4,7 +4,7 @@ use Rattle.laws.specs.Numbers.{ℕ, _-_, arith, lt-ltb, le-ltb, length, drop}
 use Rattle.rules.specs.Auction.{Matched, auctionMatch, matchAt, unmatched}
 use Rattle.rules.specs.Memory.{putQueue, queueIn}
 use Rattle.rules.specs.declared.{Account.Account, Order.Order}
-use Rattle.rules.proofs.Codecs.{length-queue, put-queue}
+use Rattle.theory.proofs.Codecs.{length-queue, put-queue}
 use Rattle.book.proofs.Trading.{all-booked}
 use Rattle.auction.specs.Matched.{FillsIs, MatchReady, MatchedIs, levelMatch}
 use Rattle.auction.specs.Price.{chosenLevel}

@@ -8,8 +8,8 @@ use Rattle.rules.specs.Exchange.{noOrder}
 use Rattle.rules.specs.Matching.{withLots}
 use Rattle.rules.specs.Memory.{orderFrom, queueIn, firstWord}
 use Rattle.rules.specs.declared.Order.{Order}
-use Rattle.rules.proofs.AuctionTurns.{less-filled, less-part, match-at-turn}
-use Rattle.rules.proofs.Codecs.{order-at}
+use Rattle.theory.proofs.AuctionTurns.{less-filled, less-part, match-at-turn}
+use Rattle.theory.proofs.Codecs.{order-at}
 use Rattle.book.proofs.Queues.{next-order, no-more}
 use Rattle.auction.proofs.Turns.{Meeting, no-buys, no-sells, unmet}
 

@@ -9,8 +9,8 @@ use Rattle.rules.specs.Exchange.{noOrder}
 use Rattle.rules.specs.Matching.{withLots}
 use Rattle.rules.specs.Memory.{orderFrom, putQueue, queueIn, firstWord}
 use Rattle.rules.specs.declared.{Order.Order, Trade.Trade}
-use Rattle.rules.proofs.AuctionTurns.{less-filled, less-part}
-use Rattle.rules.proofs.Codecs.{length-queue, order-at, put-queue, putQueue-again, queue-put}
+use Rattle.theory.proofs.AuctionTurns.{less-filled, less-part}
+use Rattle.theory.proofs.Codecs.{length-queue, order-at, put-queue, putQueue-again, queue-put}
 use Rattle.book.proofs.Queues.{next-order}
 use Rattle.auction.specs.Matched.{LeftIn, standing}
 

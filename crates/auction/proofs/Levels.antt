@@ -5,8 +5,8 @@ use Rattle.laws.specs.Choice.{pick, pick-same}
 use Rattle.rules.specs.Auction.{apart, bestFrom, bestOf, better, chosenPrice, lotsReaching, prices, reaches, restingPrices, smaller, surplus, volume}
 use Rattle.rules.specs.Memory.{orderFrom, queueIn, firstWord}
 use Rattle.rules.specs.declared.Order.{Order}
-use Rattle.rules.proofs.AuctionTaken.{reaching-nil, reaching-met, reaching-unmet}
-use Rattle.rules.proofs.Queue.{lots-append}
+use Rattle.theory.proofs.AuctionTaken.{reaching-nil, reaching-met, reaching-unmet}
+use Rattle.theory.proofs.Queue.{lots-append}
 use Rattle.book.proofs.Queues.{next-order, no-more}
 use Rattle.auction.specs.Price.{bestLevel, chosenLevel, firstPrice, headPrice, levelAt, preferred}
 use Rattle.auction.specs.declared.price.Level.{Level}

@@ -12,9 +12,9 @@ use Rattle.rules.specs.Holdings.{bookTrade}
 use Rattle.rules.specs.Matching.{withLots}
 use Rattle.rules.specs.Memory.{orderFrom, putQueue, queueIn, tradeWords, tradeStride, firstWord}
 use Rattle.rules.specs.declared.{Account.Account, Order.Order, Trade.Trade}
-use Rattle.rules.proofs.AuctionTaken.{KeptWithFewer, less-kept}
-use Rattle.rules.proofs.AuctionTurns.{match-at-stop, match-at-turn}
-use Rattle.rules.proofs.Codecs.{trade-codec}
+use Rattle.theory.proofs.AuctionTaken.{KeptWithFewer, less-kept}
+use Rattle.theory.proofs.AuctionTurns.{match-at-stop, match-at-turn}
+use Rattle.theory.proofs.Codecs.{trade-codec}
 use Rattle.holdings.proofs.Bookings.{held-more, held-trade}
 use Rattle.book.proofs.Queues.{next-order, no-more}
 use Rattle.book.proofs.Trading.{Booked, booked, booked-trade, all-booked, still-made}

@@ -10,7 +10,7 @@ use Rattle.rules.specs.Exchange.{Listing, noOrder}
 use Rattle.rules.specs.Memory.{orderFrom, queueIn, firstWord}
 use Rattle.rules.specs.WellFormed.{listed, allListed, usedOnce}
 use Rattle.rules.specs.declared.Order.{Order}
-use Rattle.rules.proofs.Codecs.{length-queue, order-at}
+use Rattle.theory.proofs.Codecs.{length-queue, order-at}
 use Rattle.audit.specs.Listed.{Behind, maxListed}
 use Rattle.audit.specs.declared.numbers.Listed.{Listed}
 

@@ -7,7 +7,7 @@ use Rattle.rules.specs.Exchange.{accountAt, noAccount, noHolding}
 use Rattle.rules.specs.Holdings.{sameHoldings, sameLots, startAccount, startHolding, startOfDay}
 use Rattle.rules.specs.Memory.{inUse, used}
 use Rattle.rules.specs.declared.{Account.Account, Holding.Holding}
-use Rattle.rules.proofs.InUse.{length-used, used-at}
+use Rattle.theory.proofs.InUse.{length-used, used-at}
 use Rattle.audit.proofs.Walks.{next-in, next-of, none-in}
 
 -- ---- the start of the day

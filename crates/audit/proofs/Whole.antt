@@ -10,9 +10,9 @@ use Rattle.rules.specs.Exchange.{Exchange, Listing, listingAt, accountAt, holdi
 use Rattle.rules.specs.Memory.{Memory, exchangeOf, inUse, listingIn, recordedTrades, countsInRange, hasRoom, wellFormedMemory, used, memory, tradeStride}
 use Rattle.rules.specs.WellFormed.{countersInRange, allNumbers, allStamps, usedOnce, quotes, markAllowed, queueQuoted, listingQuoted, markInRange, tradeInRange, replays, holdingInRange, holdingsInRange, balanceInRange, wellFormedContents}
 use Rattle.rules.specs.declared.{Account.Account, Order.Order, State.State, Trade.Trade}
-use Rattle.rules.proofs.Codecs.{length-trades}
-use Rattle.rules.proofs.InUse.{length-used, used-holding}
-use Rattle.rules.proofs.Terms.{terms, terms-passed}
+use Rattle.theory.proofs.Codecs.{length-trades}
+use Rattle.theory.proofs.InUse.{length-used, used-holding}
+use Rattle.theory.proofs.Terms.{terms, terms-passed}
 use Rattle.invariants.proofs.Clauses.{holding-ok, trade-ok}
 use Rattle.invariants.proofs.MemoryRoom.{counts-ok, room-ok}
 use Rattle.replaying.specs.Parts.{Booked}

@@ -20,7 +20,7 @@ use Rattle.rules.specs.DayFile.{commandFrom, commandWidth}
 use Rattle.rules.specs.Memory.{Declared, Memory, respond, wellFormedMemory}
 use Rattle.rules.specs.declared.Command.{Command}
 use Rattle.rules.specs.declared.Command.the-variants.{Malformed}
-use Rattle.rules.proofs.Refusals.{failed}
+use Rattle.theory.proofs.Refusals.{failed}
 use Rattle.accounting.proofs.Runs.{run-append}
 use Rattle.invariants.proofs.Condition3.{money-left}
 use Rattle.exchange.specs.Run.{firstCommands, wholeCommands}

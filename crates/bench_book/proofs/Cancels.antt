@@ -7,7 +7,7 @@ use lib.ListN.{length, drop-of-length-le}
 use lib.Seq.{take-all}
 use Rattle.areas.proofs.Lists.{length-removeAt}
 use Rattle.areas.specs.Lists.{removeAt}
-use Rattle.rules.proofs.Codecs.{length-queue, put-queue}
+use Rattle.theory.proofs.Codecs.{length-queue, put-queue}
 use Rattle.rules.specs.Memory.{queueIn, putQueue, firstWord}
 use Rattle.book.specs.Places.{indexOf}
 

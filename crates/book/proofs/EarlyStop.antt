@@ -7,10 +7,10 @@ use Rattle.rules.specs.Exchange.{lotsWhere, bestPrice}
 use Rattle.rules.specs.Matching.{counterpart, fillable, sweep}
 use Rattle.rules.specs.WellFormed.{sorted}
 use Rattle.rules.specs.declared.{Order.Order, Taker.Taker}
-use Rattle.rules.proofs.Fillable.{none-met}
-use Rattle.rules.proofs.Queue.{lots-nil, lots-met, lots-unmet}
-use Rattle.rules.proofs.Sorted.{AllBehind, sorted-tail, sorted-behind, best-first}
-use Rattle.rules.proofs.Sweep.{Unmet, sweep-ind}
+use Rattle.theory.proofs.Fillable.{none-met}
+use Rattle.theory.proofs.Queue.{lots-nil, lots-met, lots-unmet}
+use Rattle.theory.proofs.Sorted.{AllBehind, sorted-tail, sorted-behind, best-first}
+use Rattle.theory.proofs.Sweep.{Unmet, sweep-ind}
 use Rattle.book.specs.EarlyStop.{fillableFront, countTrades}
 
 -- ---- turns of the early-stop readers

@@ -10,7 +10,7 @@ use Rattle.rules.specs.Matching.{restIn}
 use Rattle.rules.specs.Step.{without, hasNumber}
 use Rattle.rules.specs.WellFormed.{numbers, usedOnce, listed}
 use Rattle.rules.specs.declared.Order.{Order}
-use Rattle.rules.proofs.Queue.{lots-nil, lots-met, lots-unmet, without-nil, without-met, without-unmet, notIn, notIn-append}
+use Rattle.theory.proofs.Queue.{lots-nil, lots-met, lots-unmet, without-nil, without-met, without-unmet, notIn, notIn-append}
 use Rattle.book.specs.Places.{firstWhere, placeIn, indexOf}
 
 module _ (test : Order → Bool) where

@@ -13,8 +13,8 @@ use Rattle.rules.specs.Exchange.{lotsWhere, noOrder}
 use Rattle.rules.specs.Memory.{orderWords, orderFrom, queueIn, putQueue, orderStride, queueStride, firstWord}
 use Rattle.rules.specs.Step.{without}
 use Rattle.rules.specs.declared.Order.{Order}
-use Rattle.rules.proofs.Codecs.{order-codec, length-queue, order-at}
-use Rattle.rules.proofs.Queue.{lots-nil, lots-met, lots-unmet, lots-append, without-nil, without-met, without-unmet, without-append}
+use Rattle.theory.proofs.Codecs.{order-codec, length-queue, order-at}
+use Rattle.theory.proofs.Queue.{lots-nil, lots-met, lots-unmet, lots-append, without-nil, without-met, without-unmet, without-append}
 use Rattle.book.specs.Removal.{isPulled, RemovedIs}
 use Rattle.book.proofs.Queues.{put-over}
 

@@ -19,7 +19,7 @@ use Rattle.rules.specs.Matching.{restIn, withLots}
 use Rattle.rules.specs.Memory.{orderWords, orderFrom, queueIn, putQueue, orderStride, queueStride, firstWord, lotsWord, quoteWord}
 use Rattle.book.specs.Places.{firstWhere, placeIn}
 use Rattle.rules.specs.declared.Order.{Order}
-use Rattle.rules.proofs.Codecs.{order-codec, length-queue, order-at}
+use Rattle.theory.proofs.Codecs.{order-codec, length-queue, order-at}
 use Rattle.book.proofs.Places.{first-nil, first-here, first-on, first-within, restIn-insertAt}
 
 -- ---- an order written and moved

@@ -7,7 +7,7 @@ use Rattle.areas.proofs.Lists.{sets-over}
 use Rattle.areas.proofs.Records.{encode-one}
 use Rattle.rules.specs.Memory.{tradeWords, tradeStride}
 use Rattle.rules.specs.declared.Trade.{Trade}
-use Rattle.rules.proofs.Codecs.{trade-codec}
+use Rattle.theory.proofs.Codecs.{trade-codec}
 
 -- nine stores write a trade
 pub stored-trade : (area : List ℕ) (at : ℕ) (t : Trade) → at + tradeStride ≤ length area → sets area at (tradeWords t) ≡ store tradeWords area at (t ∷ [])

@@ -9,7 +9,7 @@ use Rattle.rules.specs.Exchange.{lotsWhere, resting}
 use Rattle.rules.specs.Matching.{counterpart}
 use Rattle.rules.specs.declared.{Order.Order, Taker.Taker}
 use Rattle.book.proofs.EarlyStop.{front-met, count-used, count-met}
-use Rattle.rules.proofs.Queue.{lots-nil, lots-met, lots-unmet, lots-append}
+use Rattle.theory.proofs.Queue.{lots-nil, lots-met, lots-unmet, lots-append}
 
 -- ---- a counterpart: fillable lots, and trades
 

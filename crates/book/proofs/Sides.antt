@@ -9,7 +9,7 @@ use Rattle.areas.proofs.Records.{records-part}
 use Rattle.rules.specs.Bounds.{maxResting}
 use Rattle.rules.specs.Exchange.{own}
 use Rattle.rules.specs.Memory.{Memory, listingIn, queueIn, orderStride, queueStride, firstWord}
-use Rattle.rules.proofs.Codecs.{order-codec}
+use Rattle.theory.proofs.Codecs.{order-codec}
 use Rattle.rules.specs.Side.{noQueue, queueWords, sideWords}
 
 -- ---- the tests in the code's order

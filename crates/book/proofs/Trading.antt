@@ -8,8 +8,8 @@ use Rattle.rules.specs.Holdings.{bookTrade, bookTrades}
 use Rattle.rules.specs.Matching.{tradedLots, lastPrice}
 use Rattle.rules.specs.Memory.{tradeWords, tradeStride}
 use Rattle.rules.specs.declared.{Account.Account, Trade.Trade}
-use Rattle.rules.proofs.Codecs.{trade-codec}
-use Rattle.rules.proofs.Fillable.{traded-nil, traded-cons}
+use Rattle.theory.proofs.Codecs.{trade-codec}
+use Rattle.theory.proofs.Fillable.{traded-nil, traded-cons}
 use Rattle.book.specs.Trading.{AllBooked}
 
 -- lots traded, trades of the day, the last price, the accounts and the trade area

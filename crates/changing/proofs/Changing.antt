@@ -29,12 +29,12 @@ use Rattle.rules.specs.declared.Command.the-variants.{Cancel, Change}
 use Rattle.rules.specs.declared.NewOrder.{NewOrder}
 use Rattle.rules.specs.declared.Order.{Order}
 use Rattle.rules.specs.declared.State.{State}
-use Rattle.rules.proofs.Codecs.{length-putQueue, length-queue, put-queue}
-use Rattle.rules.proofs.Lessened.{less-length}
-use Rattle.rules.proofs.Queue.{length-without}
+use Rattle.theory.proofs.Codecs.{length-putQueue, length-queue, put-queue}
+use Rattle.theory.proofs.Lessened.{less-length}
+use Rattle.theory.proofs.Queue.{length-without}
 use Rattle.book.proofs.Places.{lots-number, numbered-append-found, numbered-append-none, numbered-found, without-none, without-number}
-use Rattle.rules.proofs.Stages.{Each}
-use Rattle.rules.proofs.Refusals.{Failed, failed, first-append, first-there}
+use Rattle.theory.proofs.Stages.{Each}
+use Rattle.theory.proofs.Refusals.{Failed, failed, first-append, first-there}
 use Rattle.invariants.proofs.ChangeKeeps.{change-counted, change-keeps}
 use Rattle.invariants.proofs.Clauses.{Counted, WellFormed, well-formed-test}
 use Rattle.invariants.proofs.MemoryKeeps.{sound, step-in-keeps, step-in-read}

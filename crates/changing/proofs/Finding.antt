@@ -22,8 +22,8 @@ use Rattle.rules.specs.Step.{hasNumber}
 use Rattle.rules.specs.WellFormed.{listed, numbers, usedOnce}
 use Rattle.rules.specs.declared.Contract.{Contract}
 use Rattle.rules.specs.declared.Order.{Order}
-use Rattle.rules.proofs.Codecs.{length-queue, order-at, put-queue, putQueue-putQueue, queue-put}
-use Rattle.rules.proofs.Queue.{once-append}
+use Rattle.theory.proofs.Codecs.{length-queue, order-at, put-queue, putQueue-putQueue, queue-put}
+use Rattle.theory.proofs.Queue.{once-append}
 use Rattle.book.proofs.Places.{first-ind, first-here, first-within, index-apart, index-notIn, numbered-append-found, numbered-append-none, numbered-found, numbered-none}
 use Rattle.changing.specs.Resting.{RestingIs, putBackIn}
 

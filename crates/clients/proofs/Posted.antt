@@ -10,7 +10,7 @@ use Rattle.rules.specs.Exchange.{Exchange, holdingAt, accountAt, noAccount, noH
 use Rattle.rules.specs.Matching.{tradedLots}
 use Rattle.rules.specs.Settlement.{tradesIn, tradedValue, weightedPrice, priceFrom, settlementPrice}
 use Rattle.rules.specs.declared.{Order.Order, Trade.Trade}
-use Rattle.rules.proofs.InUse.{used-holding}
+use Rattle.theory.proofs.InUse.{used-holding}
 use Rattle.clients.specs.Clients.{Clients, isPosted, clientPlace, clientTrade, clientAccount, clientExchange, clientHolding, posted, clientPlaces, maxClients}
 
 -- ---- postings

@@ -9,7 +9,7 @@ use Rattle.areas.proofs.Records.{store-append, store-nil, length-store, take-re
 use Rattle.rules.specs.Exchange.{noTrade}
 use Rattle.rules.specs.Memory.{recordedTrades, tradeFrom, tradeWords, tradeStride}
 use Rattle.rules.specs.declared.Trade.{Trade}
-use Rattle.rules.proofs.Codecs.{trade-codec, length-trades, trades-none, trade-at}
+use Rattle.theory.proofs.Codecs.{trade-codec, length-trades, trades-none, trade-at}
 use Rattle.dayprofit.proofs.Trading.{more-trades}
 use Rattle.replaying.proofs.Trades.{next-trade}
 use Rattle.clients.specs.Parts.{before, clientTrades, PostingIs}

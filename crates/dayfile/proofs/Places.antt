@@ -7,7 +7,7 @@ use Rattle.laws.specs.Tabulate.{getD-tabulate}
 use Rattle.rules.specs.Bounds.{within, maxBalance, maxContracts, maxAccounts}
 use Rattle.rules.specs.DayFile.{u32At, u64At, contractsIn, contractPlace, accountsIn, accountPlace, commandsIn, commandPlace, contractSound, accountSound, balanceFrom, makerBit, makerFrom, commandFrom, commandsOf, sound, maxCommands, countWidth, contractWidth, accountWidth, commandWidth}
 use Rattle.rules.specs.declared.Command.{Command}
-use Rattle.rules.proofs.Terms.{within-low, within-high}
+use Rattle.theory.proofs.Terms.{within-low, within-high}
 use Rattle.dayfile.specs.FileHead.{countBefore, headWhole, headSound}
 use Rattle.dayfile.proofs.Counts.{counted, uncounted}
 

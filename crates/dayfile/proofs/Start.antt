@@ -8,7 +8,7 @@ use Rattle.laws.specs.Tabulate.{tabulate, length-tabulate, getD-tabulate, tabul
 use Rattle.rules.specs.DayFile.{contractsIn, accountsIn, openingListing, openingAccount, opening, sound}
 use Rattle.rules.specs.Exchange.{noContract, noHolding}
 use Rattle.rules.specs.Memory.{Memory, listingIn, inUse, exchangeOf}
-use Rattle.rules.proofs.Codecs.{queue-none, trades-none}
+use Rattle.theory.proofs.Codecs.{queue-none, trades-none}
 use Rattle.dayfile.specs.Opening.{accountWith, openingContract, openingHolder, openingContracts, openingAccounts, openingState, openingMemory}
 use Rattle.dayfile.proofs.Places.{sound-layout}
 

@@ -9,7 +9,7 @@ use Rattle.rules.specs.Memory.{recordedTrades, tradeFrom, tradeStride}
 use Rattle.rules.specs.Bounds.{maxLots, maxPrice, maxAccounts, maxContracts}
 use Rattle.rules.specs.Settlement.{Leg, leg, Batch, only, firstLots}
 use Rattle.rules.specs.declared.Trade.{Trade}
-use Rattle.rules.proofs.Codecs.{length-trades, trade-at}
+use Rattle.theory.proofs.Codecs.{length-trades, trade-at}
 use Rattle.dayprofit.specs.Day.{Sized, SizedTrades}
 use Rattle.dayprofit.specs.Sides.{same, lotsIf, valueIf, batchIf, batchesOf, openedToday, cost, dayLotsMost, dayValueMost}
 use Rattle.dayprofit.specs.Slots.{slotOf, partyOf, closeOf, legSlot, changed, Placed, PlacedTrades, Addable, SumsAre, UsedAre, LeftAre, slots, slotLotsMost, slotValueMost}

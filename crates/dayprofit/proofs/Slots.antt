@@ -9,7 +9,7 @@ use Rattle.rules.specs.Bounds.{maxAccounts, maxContracts}
 use Rattle.rules.specs.Memory.{recordedTrades, tradeFrom, tradeStride}
 use Rattle.rules.specs.Settlement.{Leg, leg, only, legs}
 use Rattle.rules.specs.declared.Trade.{Trade}
-use Rattle.rules.proofs.Codecs.{trades-none}
+use Rattle.theory.proofs.Codecs.{trades-none}
 use Rattle.accounting.proofs.Trades.{legs-append}
 use Rattle.dayprofit.specs.Day.{Sized}
 use Rattle.dayprofit.specs.Sides.{same, valueIf}

@@ -14,7 +14,7 @@ use Rattle.rules.specs.Matching.{tradedLots}
 use Rattle.rules.specs.Memory.{recordedTrades, tradeFrom, tradeStride}
 use Rattle.rules.specs.Settlement.{tradesIn, tradedValue}
 use Rattle.rules.specs.declared.Trade.{Trade}
-use Rattle.rules.proofs.Codecs.{trade-codec, length-trades, trades-none}
+use Rattle.theory.proofs.Codecs.{trade-codec, length-trades, trades-none}
 use Rattle.dayprofit.specs.Day.{Sized, AllSized, SizedTrades, TurnoverIs}
 use Rattle.dayprofit.specs.declared.price.Turnover.{Turnover}
 

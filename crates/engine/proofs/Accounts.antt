@@ -14,7 +14,7 @@ use Rattle.rules.specs.Memory.{inUse, putAccount, putAccounts, putFirst, used}
 use Rattle.rules.specs.declared.Account.{Account}
 use Rattle.rules.specs.declared.Holding.{Holding}
 use Rattle.rules.specs.declared.Trade.{Trade}
-use Rattle.rules.proofs.InUse.{used-leg, used-set}
+use Rattle.theory.proofs.InUse.{used-leg, used-set}
 
 -- ---- one account
 

@@ -17,7 +17,7 @@ use Rattle.rules.specs.Memory.{Memory, Declared, exchangeOf, inUse, listingIn, 
 use Rattle.rules.specs.WellFormed.{wellFormedContents}
 use Rattle.rules.specs.declared.Account.{Account}
 use Rattle.rules.specs.declared.State.{State}
-use Rattle.rules.proofs.InUse.{accounts-in-use, contracts-in-use, account-in-use, holding-in-use, listing-in-use}
+use Rattle.theory.proofs.InUse.{accounts-in-use, contracts-in-use, account-in-use, holding-in-use, listing-in-use}
 use Rattle.invariants.proofs.Clauses.{WellFormed, well-formed}
 use Rattle.engine.proofs.Accounts.{put-account-set, same-room, same-room-put}
 use Rattle.engine.proofs.Tests.{place-below}

@@ -7,7 +7,7 @@ use Rattle.rules.specs.Exchange.{accountAt, holdingAt, noAccount, noContract, n
 use Rattle.rules.specs.Memory.{Memory, exchangeOf, listingIn}
 use Rattle.rules.specs.declared.Contract.{Contract}
 use Rattle.rules.specs.declared.Holding.{Holding}
-use Rattle.rules.proofs.Terms.{Terms, terms, terms-passed}
+use Rattle.theory.proofs.Terms.{Terms, terms, terms-passed}
 use Rattle.invariants.proofs.Clauses.{HoldingOk, ListingOk}
 use Rattle.margin.specs.Charge.{ChargeTerms, ChargeableIn, ChargeableAt}
 use Rattle.engine.proofs.Formed.{Formed, contracts-count, accounts-count, listing-at, holding-at}

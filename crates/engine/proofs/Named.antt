@@ -13,8 +13,8 @@ use Rattle.rules.specs.Exchange.{absent, isAbsent, listingAt, noContract, place
 use Rattle.rules.specs.Memory.{Declared, Memory, exchangeOf, listingIn, memory}
 use Rattle.rules.specs.declared.Contract.{Contract}
 use Rattle.rules.specs.declared.State.{State}
-use Rattle.rules.proofs.InUse.{accounts-in-use, contracts-in-use, listing-in-use}
-use Rattle.rules.proofs.Refusals.{Failed, first-here}
+use Rattle.theory.proofs.InUse.{accounts-in-use, contracts-in-use, listing-in-use}
+use Rattle.theory.proofs.Refusals.{Failed, first-here}
 use Rattle.engine.specs.Outcome.{AbsentIs}
 use Rattle.engine.proofs.Tests.{place-below}
 

@@ -12,7 +12,7 @@ use Rattle.rules.specs.Bounds.{maxResting}
 use Rattle.rules.specs.Exchange.{Exchange, Listing, listingAt, noContract, noListing}
 use Rattle.rules.specs.Memory.{Memory, memory, exchangeOf, listingIn, put, putAccounts, putFirst, putQueue, putQueues, putState, putTrades, queueIn, queueStride}
 use Rattle.rules.specs.Step.{withContract, withListing}
-use Rattle.rules.proofs.Codecs.{length-queue, put-queue, length-trades, put-trades, putQueues-same, putQueues-one}
+use Rattle.theory.proofs.Codecs.{length-queue, put-queue, length-trades, put-trades, putQueues-same, putQueues-one}
 use Rattle.rules.specs.declared.Account.{Account}
 use Rattle.rules.specs.declared.Contract.{Contract}
 use Rattle.rules.specs.declared.Order.{Order}

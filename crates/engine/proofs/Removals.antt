@@ -28,9 +28,9 @@ use Rattle.rules.specs.declared.Command.the-variants.{Cancel, Pull}
 use Rattle.rules.specs.declared.Contract.{Contract}
 use Rattle.rules.specs.declared.Order.{Order}
 use Rattle.rules.specs.declared.State.{State}
-use Rattle.rules.proofs.Codecs.{length-queue, order-at, put-queue}
-use Rattle.rules.proofs.Queue.{length-without, once-append}
-use Rattle.rules.proofs.Refusals.{failed, first-append}
+use Rattle.theory.proofs.Codecs.{length-queue, order-at, put-queue}
+use Rattle.theory.proofs.Queue.{length-without, once-append}
+use Rattle.theory.proofs.Refusals.{failed, first-append}
 use Rattle.book.proofs.Places.{index-apart, index-notIn, first-within, lots-none, lots-number, numbered-found, numbered-none, numbered-append-found, numbered-append-none, without-none, without-number}
 use Rattle.book.specs.Removal.{RemovedIs}
 use Rattle.invariants.proofs.Clauses.{ListingOk, OrderOk, order-ok}

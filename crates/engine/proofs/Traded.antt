@@ -16,8 +16,8 @@ use Rattle.rules.specs.Memory.{Memory, exchangeOf, put, putAccounts, putQueue, 
 use Rattle.rules.specs.Step.{withTrades}
 use Rattle.rules.specs.WellFormed.{tradeInRange}
 use Rattle.rules.specs.declared.Trade.{Trade}
-use Rattle.rules.proofs.Codecs.{store-trades}
-use Rattle.rules.proofs.Holdings.{length-bookTrades}
+use Rattle.theory.proofs.Codecs.{store-trades}
+use Rattle.theory.proofs.Holdings.{length-bookTrades}
 use Rattle.invariants.proofs.Clauses.{Counted, WellFormed, trade-ok}
 use Rattle.engine.proofs.Accounts.{TradesUsed, put-trades-booked}
 use Rattle.engine.proofs.Formed.{Formed, accounts-count, contracts-count, few-accounts, wide}

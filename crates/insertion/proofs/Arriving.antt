@@ -22,9 +22,9 @@ use Rattle.rules.specs.declared.Command.{Command}
 use Rattle.rules.specs.declared.Order.{Order}
 use Rattle.rules.specs.declared.State.{State}
 use Rattle.rules.specs.declared.Taker.{Taker}
-use Rattle.rules.proofs.Codecs.{length-queue, order-at, put-queue}
-use Rattle.rules.proofs.Fillable.{traded-nil}
-use Rattle.rules.proofs.Sweep.{sweep-end, sweep-unmet}
+use Rattle.theory.proofs.Codecs.{length-queue, order-at, put-queue}
+use Rattle.theory.proofs.Fillable.{traded-nil}
+use Rattle.theory.proofs.Sweep.{sweep-end, sweep-unmet}
 use Rattle.book.proofs.Trading.{all-booked}
 use Rattle.matching.specs.Entry.{EntryIs, EntryReady}
 use Rattle.matching.specs.Sweep.{SweepReady}

@@ -21,9 +21,9 @@ use Rattle.rules.specs.declared.NewOrder.{NewOrder}
 use Rattle.rules.specs.declared.Order.{Order}
 use Rattle.rules.specs.declared.State.{State}
 use Rattle.rules.specs.declared.Taker.{Taker}
-use Rattle.rules.proofs.AuctionSteps.{trades-needed as trades-entered}
-use Rattle.rules.proofs.Terms.{terms}
-use Rattle.rules.proofs.Refusals.{failed}
+use Rattle.theory.proofs.AuctionSteps.{trades-needed as trades-entered}
+use Rattle.theory.proofs.Terms.{terms}
+use Rattle.theory.proofs.Refusals.{failed}
 use Rattle.prices.proofs.Methods.{method-has-tick}
 use Rattle.matching.specs.Sweep.{SweepReady}
 use Rattle.invariants.proofs.Clauses.{Counted, WellFormed, well-formed, well-formed-test}

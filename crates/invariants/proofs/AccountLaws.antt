@@ -11,7 +11,7 @@ use Rattle.rules.specs.Kinds.{codeOf, decide, done, kindOf, lastOf, refused, st
 use Rattle.rules.specs.Memory.{Memory, Declared, exchangeOf, respond, stepIn, wellFormedMemory}
 use Rattle.rules.specs.Touches.{names}
 use Rattle.rules.specs.declared.Command.{Command}
-use Rattle.rules.proofs.Stages.{decided}
+use Rattle.theory.proofs.Stages.{decided}
 use Rattle.accounting.specs.Shape.{Shaped}
 use Rattle.accounting.proofs.Condition3.{opening-loaded}
 use Rattle.accounting.proofs.Declared.{declared-kept, declared-shaped}

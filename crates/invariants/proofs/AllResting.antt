@@ -11,12 +11,12 @@ use Rattle.rules.specs.Kinds.{lastOf}
 use Rattle.rules.specs.Matching.{enter, remainder, restLots, restWhole, withLots}
 use Rattle.rules.specs.Step.{enteredOf, exchangeAfter, exchangeMatched, limitOf, listingAfter, listingMatched, listingWithout, withListing}
 use Rattle.rules.specs.declared.{NewOrder.NewOrder, Order.Order}
-use Rattle.rules.proofs.AuctionOutcome.{auction-either}
-use Rattle.rules.proofs.AuctionSteps.{entered-either, match-either}
-use Rattle.rules.proofs.AuctionTaken.{KeptWithFewer, less-kept}
-use Rattle.rules.proofs.AuctionTurns.{match-ind}
-use Rattle.rules.proofs.Lessened.{same-all}
-use Rattle.rules.proofs.Rest.{rest-all}
+use Rattle.theory.proofs.AuctionOutcome.{auction-either}
+use Rattle.theory.proofs.AuctionSteps.{entered-either, match-either}
+use Rattle.theory.proofs.AuctionTaken.{KeptWithFewer, less-kept}
+use Rattle.theory.proofs.AuctionTurns.{match-ind}
+use Rattle.theory.proofs.Lessened.{same-all}
+use Rattle.theory.proofs.Rest.{rest-all}
 use Rattle.invariants.proofs.InsertQueues.{other-own, rested-all}
 use Rattle.invariants.proofs.Removal.{without-all}
 

@@ -11,10 +11,10 @@ use Rattle.rules.specs.Fairness.{LotsAccounted, allLots, lotsNumbered, lotsTrad
 use Rattle.rules.specs.Matching.{tradedLots, withLots}
 use Rattle.rules.specs.WellFormed.{numbers, sorted, usedOnce}
 use Rattle.rules.specs.declared.{Order.Order, Trade.Trade}
-use Rattle.rules.proofs.AuctionOutcome.{auction-either, auction-lots}
-use Rattle.rules.proofs.AuctionTrades.{match-prices}
-use Rattle.rules.proofs.AuctionTurns.{less-filled, less-part, match-ind}
-use Rattle.rules.proofs.Fillable.{traded-cons}
+use Rattle.theory.proofs.AuctionOutcome.{auction-either, auction-lots}
+use Rattle.theory.proofs.AuctionTrades.{match-prices}
+use Rattle.theory.proofs.AuctionTurns.{less-filled, less-part, match-ind}
+use Rattle.theory.proofs.Fillable.{traded-cons}
 use Rattle.invariants.proofs.LargestPrice.{largest-of-all}
 use Rattle.invariants.proofs.QueueFronts.{TakenFromFront, front-priority, less-front, none-front, one-lots}
 use Rattle.invariants.proofs.SumsByKey.{sums-by-key}

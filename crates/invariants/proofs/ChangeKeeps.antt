@@ -16,10 +16,10 @@ use Rattle.rules.specs.Matching.{withLots}
 use Rattle.rules.specs.Step.{cancelled, exchangeAfter, hasNumber, limitOf, listingWithout, removed, withListing, without}
 use Rattle.rules.specs.WellFormed.{allNumbers, numberOf, markAllowed, orderInRange}
 use Rattle.rules.specs.declared.{Holding.Holding, Order.Order}
-use Rattle.rules.proofs.Changes.{changed-either}
-use Rattle.rules.proofs.Lessened.{fits, less-all, less-length, less-sorted, less-sum, less-uncrossed, same-sum}
-use Rattle.rules.proofs.Stages.{Each}
-use Rattle.rules.proofs.Refusals.{Failed, both-zero, failed, present}
+use Rattle.theory.proofs.Changes.{changed-either}
+use Rattle.theory.proofs.Lessened.{fits, less-all, less-length, less-sorted, less-sum, less-uncrossed, same-sum}
+use Rattle.theory.proofs.Stages.{Each}
+use Rattle.theory.proofs.Refusals.{Failed, both-zero, failed, present}
 use Rattle.invariants.proofs.Clauses.{ListingOk, HoldingOk, MarksOk, WellFormed, Counted, order-ok, order-test}
 use Rattle.invariants.proofs.Insert.{entry-counted, entry-keeps}
 use Rattle.invariants.proofs.InsertAccepted.{Given, Passes, both-failed, close-lots, open-lots}

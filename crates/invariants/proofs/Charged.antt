@@ -11,9 +11,9 @@ use Rattle.rules.specs.Margin.{charge, charged, chargedLots, chargedLotsWith, c
 use Rattle.rules.specs.Matching.{remainder}
 use Rattle.rules.specs.Step.{enteredOf, exchangeAfter, listingAfter}
 use Rattle.rules.specs.declared.{Account.Account, Contract.Contract, NewOrder.NewOrder, Order.Order, Trade.Trade}
-use Rattle.rules.proofs.Holdings.{other-holding}
-use Rattle.rules.proofs.LotsIncluded.{more-lots, no-lots}
-use Rattle.rules.proofs.Sweep.{ofContract}
+use Rattle.theory.proofs.Holdings.{other-holding}
+use Rattle.theory.proofs.LotsIncluded.{more-lots, no-lots}
+use Rattle.theory.proofs.Sweep.{ofContract}
 use Rattle.invariants.proofs.Insert.{account, accountsAfter, after, arrived, contractLimit, its-trades, kept-after, kept-before, lots-swept, mine, mineAfter, others, place, Before}
 use Rattle.invariants.proofs.InsertListing.{Enterable, contractAfter, own-is}
 use Rattle.invariants.proofs.Legs.{KeptAt, opensFor, resting-cons}

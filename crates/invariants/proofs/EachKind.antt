@@ -18,10 +18,10 @@ use Rattle.rules.specs.Touches.{names}
 use Rattle.rules.specs.WellFormed.{wellFormedContents}
 use Rattle.rules.specs.declared.Command.{Command}
 use Rattle.rules.specs.declared.Command.the-variants.{Malformed, Deposit, Withdraw, Insert, Cancel, Pull, Phase, Settle, Quote, Change}
-use Rattle.rules.proofs.EachKind.{settle-is}
-use Rattle.rules.proofs.Holdings.{booked-maker}
-use Rattle.rules.proofs.Stages.{Each, each-last, decided}
-use Rattle.rules.proofs.Touches.{account-at, contract-there, isAt, not-its}
+use Rattle.theory.proofs.EachKind.{settle-is}
+use Rattle.theory.proofs.Holdings.{booked-maker}
+use Rattle.theory.proofs.Stages.{Each, each-last, decided}
+use Rattle.theory.proofs.Touches.{account-at, contract-there, isAt, not-its}
 use Rattle.accounting.specs.Shape.{Shaped}
 use Rattle.invariants.specs.GivenNumbers.{NumbersForLife, numbersGiven, numbersTaken, upFrom}
 use Rattle.invariants.specs.Accounts.{WithinBalance, entersOpen, isFrom}

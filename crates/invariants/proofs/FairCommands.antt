@@ -18,9 +18,9 @@ use Rattle.rules.specs.Step.{Effect, exchangeMatched, inserted, listingMatched,
 use Rattle.rules.specs.WellFormed.{numbers, usedOnce}
 use Rattle.rules.specs.declared.{Command.Command, NewOrder.NewOrder}
 use Rattle.rules.specs.declared.Command.the-variants.{Insert, Phase, Quote, Change}
-use Rattle.rules.proofs.Changes.{lost-changed}
-use Rattle.rules.proofs.Refusals.{failed, present}
-use Rattle.rules.proofs.Stages.{decided}
+use Rattle.theory.proofs.Changes.{lost-changed}
+use Rattle.theory.proofs.Refusals.{failed, present}
+use Rattle.theory.proofs.Stages.{decided}
 use Rattle.invariants.specs.Throughout.{Throughout}
 use Rattle.invariants.proofs.BestAuction.{best-auction}
 use Rattle.invariants.proofs.ChangeKeeps as change

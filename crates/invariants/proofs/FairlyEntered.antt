@@ -14,11 +14,11 @@ use Rattle.rules.specs.Step.{enteredOf, exchangeAfter, limitOf, listingAfter}
 use Rattle.rules.specs.WellFormed.{allListed, allNumbers, listed, numbers, orderInRange, sorted, usedOnce}
 use Rattle.rules.specs.declared.{NewOrder.NewOrder, Order.Order, Taker.Taker}
 use Rattle.rules.specs.declared.TimeCondition.the-variants.{FillOrKill}
-use Rattle.rules.proofs.AuctionSteps.{entered-either, entered-elsewhere, enteredBySweep}
-use Rattle.rules.proofs.Fillable.{swept-at-most, swept-fillable, traded-nil}
-use Rattle.rules.proofs.Prices.{allowed-facts, method-rounds}
-use Rattle.rules.proofs.Queue.{once-append}
-use Rattle.rules.proofs.Terms.{contract-terms}
+use Rattle.theory.proofs.AuctionSteps.{entered-either, entered-elsewhere, enteredBySweep}
+use Rattle.theory.proofs.Fillable.{swept-at-most, swept-fillable, traded-nil}
+use Rattle.theory.proofs.Prices.{allowed-facts, method-rounds}
+use Rattle.theory.proofs.Queue.{once-append}
+use Rattle.theory.proofs.Terms.{contract-terms}
 use Rattle.invariants.proofs.Clauses.{ListingOk, WellFormed, order-ok}
 use Rattle.invariants.proofs.InsertAccepted.{Passes}
 use Rattle.invariants.proofs.Sorting.{restIn-sum}

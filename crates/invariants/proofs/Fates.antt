@@ -16,11 +16,11 @@ use Rattle.rules.specs.WellFormed.{numberOf}
 use Rattle.rules.specs.declared.{Order.Order, PairingMethod.PairingMethod, PriceCondition.PriceCondition, Taker.Taker, Trade.Trade}
 use Rattle.rules.specs.declared.PairingMethod.the-variants.{Middle, Average, FirstIn}
 use Rattle.rules.specs.declared.PriceCondition.the-variants.{Limit, Market, Best}
-use Rattle.rules.proofs.AuctionTurns.{less-filled, less-part, match-ind}
-use Rattle.rules.proofs.AuctionUncrossed.{hasLots}
-use Rattle.rules.proofs.Prices.{RoundsTo, average-above, average-high, middle-high, middle-low}
-use Rattle.rules.proofs.Sweep.{sweep-ind}
-use Rattle.rules.proofs.Touches.{of-its, of-other}
+use Rattle.theory.proofs.AuctionTurns.{less-filled, less-part, match-ind}
+use Rattle.theory.proofs.AuctionUncrossed.{hasLots}
+use Rattle.theory.proofs.Prices.{RoundsTo, average-above, average-high, middle-high, middle-low}
+use Rattle.theory.proofs.Sweep.{sweep-ind}
+use Rattle.theory.proofs.Touches.{of-its, of-other}
 use Rattle.invariants.proofs.Numbers.{uses}
 use Rattle.invariants.proofs.OneOrder.{lots-none, none-has, uses-met, uses-unmet}
 use Rattle.invariants.specs.RestingOrders.{Kept, atItsLimit, isOfAccount, isOfOrder, lotsTradedBy, someOrder, withinLimit}

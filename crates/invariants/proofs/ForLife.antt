@@ -13,8 +13,8 @@ use Rattle.rules.specs.Quote.{Offered, buyOf, quoted, sellOf, withBuy, withSell
 use Rattle.rules.specs.Step.{cancelled, enteredOf, exchangeAfter, exchangeMatched, hasNumber, isOf, listingWithout, removed, withListing}
 use Rattle.rules.specs.WellFormed.{isQuoteOf}
 use Rattle.rules.specs.declared.{NewOrder.NewOrder, Order.Order}
-use Rattle.rules.proofs.AuctionTaken.{KeptWithFewer}
-use Rattle.rules.proofs.Changes.{changed-either}
+use Rattle.theory.proofs.AuctionTaken.{KeptWithFewer}
+use Rattle.theory.proofs.Changes.{changed-either}
 use Rattle.invariants.proofs.AllResting.{AllResting, entered-resting, lessened-resting, matched-resting, without-resting}
 use Rattle.invariants.proofs.ChangeKeeps.{its-close, owned, rests}
 use Rattle.invariants.proofs.Clauses.{WellFormed}

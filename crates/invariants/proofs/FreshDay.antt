@@ -11,7 +11,7 @@ use Rattle.rules.specs.Exchange.{Exchange, Listing, listingAt, accountAt, holdi
 use Rattle.rules.specs.Holdings.{bookTrades, neverBelowZero, startHolding, startAccount, startOfDay}
 use Rattle.rules.specs.WellFormed.{contractInRange, sorted, uncrossed, numberOf, stampOf, usedOnce, listed, allListed}
 use Rattle.rules.specs.declared.{Account.Account, Contract.Contract, Holding.Holding, Order.Order}
-use Rattle.rules.proofs.Holdings.{same-refl}
+use Rattle.theory.proofs.Holdings.{same-refl}
 use Rattle.invariants.proofs.Clauses.{ListingOk, HoldingOk, WellFormed, Counted}
 use Rattle.invariants.proofs.Marks.{no-marks}
 

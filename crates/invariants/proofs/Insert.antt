@@ -14,12 +14,12 @@ use Rattle.rules.specs.Matching.{Swept, fillable, tradedLots, remainder, restLo
 use Rattle.rules.specs.Step.{withTrades, limitOf, enteredOf, listingAfter, exchangeAfter, inserted}
 use Rattle.rules.specs.WellFormed.{allListed, orderInRange, tradeInRange, numberOf, stampOf, usedOnce}
 use Rattle.rules.specs.declared.{Account.Account, Contract.Contract, Holding.Holding, NewOrder.NewOrder, Order.Order}
-use Rattle.rules.proofs.AuctionSteps.{entered-either, entered-elsewhere, trades-needed}
-use Rattle.rules.proofs.Fillable.{swept-fillable}
-use Rattle.rules.proofs.Holdings.{booked-start-holding}
-use Rattle.rules.proofs.Prices.{method-rounds}
-use Rattle.rules.proofs.Rest.{rest-sum, length-rest}
-use Rattle.rules.proofs.Sweep.{ofContract, swept-contract}
+use Rattle.theory.proofs.AuctionSteps.{entered-either, entered-elsewhere, trades-needed}
+use Rattle.theory.proofs.Fillable.{swept-fillable}
+use Rattle.theory.proofs.Holdings.{booked-start-holding}
+use Rattle.theory.proofs.Prices.{method-rounds}
+use Rattle.theory.proofs.Rest.{rest-sum, length-rest}
+use Rattle.theory.proofs.Sweep.{ofContract, swept-contract}
 use Rattle.invariants.proofs.Carry.{Allows}
 use Rattle.invariants.proofs.Clauses.{held, HoldingOk, MarksOk, WellFormed, Counted}
 use Rattle.invariants.proofs.InsertAccepted.{Given, Passes, next-given, numbered, passes}

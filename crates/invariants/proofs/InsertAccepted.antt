@@ -8,7 +8,7 @@ use Rattle.rules.specs.Exchange.{Exchange, listingAt, placeOf, own, holdingAt, 
 use Rattle.rules.specs.WellFormed.{allNumbers, numberOf}
 use Rattle.rules.specs.declared.{Contract.Contract, Holding.Holding, NewOrder.NewOrder, Order.Order, PriceCondition.PriceCondition}
 use Rattle.rules.specs.declared.PriceCondition.the-variants.{Limit}
-use Rattle.rules.proofs.Refusals.{Failed, failed, present}
+use Rattle.theory.proofs.Refusals.{Failed, failed, present}
 use Rattle.invariants.proofs.Clauses.{held, WellFormed}
 use Rattle.invariants.proofs.Numbers.{occurs, given-unused}
 

@@ -11,11 +11,11 @@ use Rattle.rules.specs.Step.{withLast, limitOf, enteredOf, listingAfter}
 use Rattle.rules.specs.WellFormed.{contractInRange, orderInRange, sorted}
 use Rattle.rules.specs.declared.{Contract.Contract, NewOrder.NewOrder, Order.Order, PriceCondition.PriceCondition, Trade.Trade}
 use Rattle.rules.specs.declared.PriceCondition.the-variants.{Limit, Market, Best}
-use Rattle.rules.proofs.AuctionSteps.{entered-either}
-use Rattle.rules.proofs.Fillable.{traded-nil}
-use Rattle.rules.proofs.Prices.{swept-allowed, last-test, method-rounds}
-use Rattle.rules.proofs.Rest.{rest-sorted, uncrossedFrom, entered-uncrossed}
-use Rattle.rules.proofs.Terms.{contract-terms, multiple, multiple-test}
+use Rattle.theory.proofs.AuctionSteps.{entered-either}
+use Rattle.theory.proofs.Fillable.{traded-nil}
+use Rattle.theory.proofs.Prices.{swept-allowed, last-test, method-rounds}
+use Rattle.theory.proofs.Rest.{rest-sorted, uncrossedFrom, entered-uncrossed}
+use Rattle.theory.proofs.Terms.{contract-terms, multiple, multiple-test}
 use Rattle.invariants.proofs.Carry.{Allows, orders-carried}
 use Rattle.invariants.proofs.Clauses.{order-ok, order-test, ListingOk, WellFormed}
 use Rattle.invariants.proofs.InsertAccepted.{Given, Passes}

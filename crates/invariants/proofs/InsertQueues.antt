@@ -10,8 +10,8 @@ use Rattle.rules.specs.Exchange.{Listing, own, opposite, withQueues, resting, l
 use Rattle.rules.specs.Matching.{withLots, sweep, remainder, restLots}
 use Rattle.rules.specs.WellFormed.{contractInRange, sorted, orderInRange}
 use Rattle.rules.specs.declared.{Contract.Contract, Order.Order, Taker.Taker}
-use Rattle.rules.proofs.Queue.{length-restIn}
-use Rattle.rules.proofs.Rest.{uncrossedFrom, rest-all}
+use Rattle.theory.proofs.Queue.{length-restIn}
+use Rattle.theory.proofs.Rest.{uncrossedFrom, rest-all}
 use Rattle.invariants.proofs.Clauses.{order-ok, order-test, ListingOk}
 use Rattle.invariants.proofs.Sorting.{restIn-all, restIn-sorted, restIn-sum}
 use Rattle.invariants.proofs.SweptHoldings.{Fewer}

@@ -7,9 +7,9 @@ use Rattle.laws.specs.Choice.{allOf, allOf-append, both-true, either-true, pick
 use Rattle.rules.specs.Auction.{apart, better, chosenPrice, lotsReaching, prices, reaches, restingPrices, smaller, surplus, volume}
 use Rattle.rules.specs.AuctionFairness.{LargestVolume, oneOf}
 use Rattle.rules.specs.declared.Order.{Order}
-use Rattle.rules.proofs.AuctionPrice.{chosen-largest, chosen-of-any, chosen-rests, chosen-unbeaten, one-passes}
-use Rattle.rules.proofs.AuctionTaken.{behind-reaches, reaching-met, reaching-nil, reaching-unmet}
-use Rattle.rules.proofs.Sorted.{Behind, behind-trans}
+use Rattle.theory.proofs.AuctionPrice.{chosen-largest, chosen-of-any, chosen-rests, chosen-unbeaten, one-passes}
+use Rattle.theory.proofs.AuctionTaken.{behind-reaches, reaching-met, reaching-nil, reaching-unmet}
+use Rattle.theory.proofs.Sorted.{Behind, behind-trans}
 
 -- ---- more lots reach a price that stands further behind
 

@@ -8,7 +8,7 @@ use Rattle.rules.specs.Exchange.{accountAt, holdingAt, noAccount, noHolding, lo
 use Rattle.rules.specs.Holdings.{afterLeg, withHolding, bookLeg, legCovered}
 use Rattle.rules.specs.Matching.{withLots}
 use Rattle.rules.specs.declared.{Account.Account, Holding.Holding, Order.Order}
-use Rattle.rules.proofs.Holdings.{holding-other-account, close-covered, open-covered}
+use Rattle.theory.proofs.Holdings.{holding-other-account, close-covered, open-covered}
 use Rattle.invariants.proofs.Clauses.{held}
 
 -- ---- a holding changed at its place, or none at all past the end

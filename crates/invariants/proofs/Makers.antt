@@ -12,8 +12,8 @@ use Rattle.rules.specs.Quote.{Offered, buyEntered, quoted, sellEntered, withBuy
 use Rattle.rules.specs.Settlement.{settled, settledAccount}
 use Rattle.rules.specs.Step.{cancelled, exchangeAfter, paid, removed}
 use Rattle.rules.specs.declared.Account.{Account}
-use Rattle.rules.proofs.Changes.{changed-either}
-use Rattle.rules.proofs.Holdings.{booked-maker}
+use Rattle.theory.proofs.Changes.{changed-either}
+use Rattle.theory.proofs.Holdings.{booked-maker}
 
 module _ (x : Exchange) (a : ℕ) where
   -- the account's mark in another state is the one in x

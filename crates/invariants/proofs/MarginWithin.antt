@@ -19,10 +19,10 @@ use Rattle.rules.specs.Margin.{charge, charged, chargedLots, chargedTo, include
 use Rattle.rules.specs.Quote.{Offered, buyOf, half, quoted, quoteRefusals, sellOf, withBuy, withSell, withoutQuote}
 use Rattle.rules.specs.Step.{cancelled, deposited, enteredOf, exchangeAfter, exchangeMatched, hasNumber, inserted, listingMatched, listingWithout, paid, phaseChanged, removed, withListing, withdrawn}
 use Rattle.rules.specs.declared.{Account.Account, NewOrder.NewOrder, Order.Order}
-use Rattle.rules.proofs.Changes.{changed-either}
-use Rattle.rules.proofs.Holdings.{booked-balance}
-use Rattle.rules.proofs.LotsIncluded.{open-passes}
-use Rattle.rules.proofs.Refusals.{Failed, failed, present}
+use Rattle.theory.proofs.Changes.{changed-either}
+use Rattle.theory.proofs.Holdings.{booked-balance}
+use Rattle.theory.proofs.LotsIncluded.{open-passes}
+use Rattle.theory.proofs.Refusals.{Failed, failed, present}
 use Rattle.accounting.specs.Shape.{Shaped}
 use Rattle.accounting.proofs.StepShape.{SameShape, entered-shape, listing-replaced}
 use Rattle.invariants.specs.Accounts.{WithinBalance}

@@ -10,8 +10,8 @@ use Rattle.rules.specs.Exchange.{Exchange, accountAt, own, placeOf}
 use Rattle.rules.specs.Matching.{sweep, remainder, restLots}
 use Rattle.rules.specs.WellFormed.{isQuoteOf, markAllowed, quotes}
 use Rattle.rules.specs.declared.{Account.Account, NewOrder.NewOrder, Order.Order, Taker.Taker}
-use Rattle.rules.proofs.AuctionTaken.{KeptWithFewer, LessWithFewer}
-use Rattle.rules.proofs.Rest.{rest-all, rest-sum}
+use Rattle.theory.proofs.AuctionTaken.{KeptWithFewer, LessWithFewer}
+use Rattle.theory.proofs.Rest.{rest-all, rest-sum}
 use Rattle.invariants.proofs.Clauses.{MarksOk, WellFormed}
 use Rattle.invariants.proofs.InsertQueues.{rested-all, rested-sum}
 

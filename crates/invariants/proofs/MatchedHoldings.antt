@@ -8,9 +8,9 @@ use Rattle.rules.specs.Holdings.{bookBuyer, bookTrade, bookTrades, legCovered, 
 use Rattle.rules.specs.Matching.{withLots}
 use Rattle.rules.specs.WellFormed.{orderInRange}
 use Rattle.rules.specs.declared.{Account.Account, Contract.Contract, Order.Order, Trade.Trade}
-use Rattle.rules.proofs.AuctionTaken.{less-kept}
-use Rattle.rules.proofs.AuctionTurns.{less-filled, less-part, match-ind}
-use Rattle.rules.proofs.Holdings.{never-nil}
+use Rattle.theory.proofs.AuctionTaken.{less-kept}
+use Rattle.theory.proofs.AuctionTurns.{less-filled, less-part, match-ind}
+use Rattle.theory.proofs.Holdings.{never-nil}
 use Rattle.invariants.proofs.Clauses.{order-ok}
 use Rattle.invariants.proofs.InsertQueues.{order-fewer}
 use Rattle.invariants.proofs.Legs.{Kept, buyer-covered, seller-covered, trade-kept}

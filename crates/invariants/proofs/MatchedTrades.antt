@@ -11,8 +11,8 @@ use Rattle.rules.specs.Exchange.{Exchange, listingAt}
 use Rattle.rules.specs.Matching.{withLots}
 use Rattle.rules.specs.WellFormed.{orderInRange, tradeInRange, numberOf}
 use Rattle.rules.specs.declared.{Contract.Contract, Order.Order}
-use Rattle.rules.proofs.AuctionTaken.{KeptWithFewer}
-use Rattle.rules.proofs.AuctionTrades.{match-each}
+use Rattle.theory.proofs.AuctionTaken.{KeptWithFewer}
+use Rattle.theory.proofs.AuctionTrades.{match-each}
 use Rattle.invariants.proofs.Clauses.{order-ok, trade-test}
 use Rattle.invariants.proofs.InsertQueues.{order-fewer}
 use Rattle.invariants.proofs.Numbers.{uses}

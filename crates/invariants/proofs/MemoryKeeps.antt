@@ -8,8 +8,8 @@ use Rattle.rules.specs.Exchange.{Exchange, listingAt, own, noListing}
 use Rattle.rules.specs.Kinds.{kindOf, codeOf, lastOf, step}
 use Rattle.rules.specs.Memory.{Memory, listingIn, exchangeOf, put, written, wellFormedMemory, stepIn, respond}
 use Rattle.rules.specs.declared.Command.{Command}
-use Rattle.rules.proofs.Codecs.{length-queue, length-trades}
-use Rattle.rules.proofs.Stages.{Each, decided}
+use Rattle.theory.proofs.Codecs.{length-queue, length-trades}
+use Rattle.theory.proofs.Stages.{Each, decided}
 use Rattle.accounting.proofs.EachKind.{kind-shape}
 use Rattle.accounting.proofs.StepShape.{SameShape, shape-trans, shape-sym}
 use Rattle.invariants.proofs.Clauses.{Counted, Sound, WellFormed, well-formed, well-formed-test}

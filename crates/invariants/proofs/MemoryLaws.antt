@@ -8,8 +8,8 @@ use Rattle.rules.specs.Bounds.{maxResting}
 use Rattle.rules.specs.Exchange.{Exchange, Listing, listingAt, accountAt, own, noListing, noAccount, noContract}
 use Rattle.rules.specs.Memory.{Memory, Declared, queueIn, recordedTrades, listingIn, inUse, exchangeOf, putQueues, putTrades, putFirst, putAccounts, putState, put}
 use Rattle.rules.specs.declared.{Account.Account, Holding.Holding}
-use Rattle.rules.proofs.Codecs.{length-queue, putQueues-same, length-putQueues, queue-putQueues, length-trades, put-trades, trades-put, length-putTrades}
-use Rattle.rules.proofs.InUse.{listing-in-use}
+use Rattle.theory.proofs.Codecs.{length-queue, putQueues-same, length-putQueues, queue-putQueues, length-trades, put-trades, trades-put, length-putTrades}
+use Rattle.theory.proofs.InUse.{listing-in-use}
 use Rattle.accounting.proofs.StepShape.{SameShape}
 use Rattle.invariants.proofs.Clauses.{Counted}
 use Rattle.invariants.proofs.MemoryRoom.{CountsOk, RoomOk}

@@ -9,7 +9,7 @@ use Rattle.rules.specs.Exchange.{Exchange, Listing, listingAt, lotsWhere, noLis
 use Rattle.rules.specs.Step.{hasNumber, isOf, listingWithout, without}
 use Rattle.rules.specs.WellFormed.{allNumbers, numberOf}
 use Rattle.rules.specs.declared.Order.{Order}
-use Rattle.rules.proofs.Queue.{lots-nil, lots-unmet, without-met, without-unmet}
+use Rattle.theory.proofs.Queue.{lots-nil, lots-unmet, without-met, without-unmet}
 use Rattle.invariants.proofs.Clauses.{WellFormed}
 use Rattle.invariants.proofs.Numbers.{all-uses, once-count, uses, usesIn}
 use Rattle.invariants.specs.RestingOrders.{OneGone}

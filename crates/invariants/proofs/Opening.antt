@@ -11,7 +11,7 @@ use Rattle.rules.specs.Exchange.{noHolding}
 use Rattle.rules.specs.Holdings.{startHolding, startAccount}
 use Rattle.rules.specs.WellFormed.{contractInRange, wellFormedContents}
 use Rattle.rules.specs.declared.Holding.{Holding}
-use Rattle.rules.proofs.Terms.{terms, multiple-test}
+use Rattle.theory.proofs.Terms.{terms, multiple-test}
 use Rattle.invariants.proofs.Clauses.{Sound, well-formed-test}
 use Rattle.invariants.proofs.FreshDay.{fresh-day, fresh-counted}
 

@@ -16,15 +16,15 @@ use Rattle.rules.specs.Step.{cancelled, enteredOf, exchangeAfter, exchangeMatch
 use Rattle.rules.specs.Touches.{ordersOf}
 use Rattle.rules.specs.WellFormed.{isQuoteOf, orderInRange}
 use Rattle.rules.specs.declared.{NewOrder.NewOrder, Order.Order, Taker.Taker, Trade.Trade}
-use Rattle.rules.proofs.AuctionOutcome.{auction-either}
-use Rattle.rules.proofs.AuctionSteps.{entered-either, match-either}
-use Rattle.rules.proofs.Changes.{changed-either}
-use Rattle.rules.proofs.InContract.{InContract, entered-in, matched-in, relisted-in}
-use Rattle.rules.proofs.Prices.{allowed-facts, method-rounds}
-use Rattle.rules.proofs.Refusals.{Failed, both-zero, failed}
-use Rattle.rules.proofs.Sweep.{ofContract}
-use Rattle.rules.proofs.Terms.{contract-terms}
-use Rattle.rules.proofs.Touches.{none-its, of-without, relisted}
+use Rattle.theory.proofs.AuctionOutcome.{auction-either}
+use Rattle.theory.proofs.AuctionSteps.{entered-either, match-either}
+use Rattle.theory.proofs.Changes.{changed-either}
+use Rattle.theory.proofs.InContract.{InContract, entered-in, matched-in, relisted-in}
+use Rattle.theory.proofs.Prices.{allowed-facts, method-rounds}
+use Rattle.theory.proofs.Refusals.{Failed, both-zero, failed}
+use Rattle.theory.proofs.Sweep.{ofContract}
+use Rattle.theory.proofs.Terms.{contract-terms}
+use Rattle.theory.proofs.Touches.{none-its, of-without, relisted}
 use Rattle.invariants.proofs.ChangeKeeps.{gone-keeps, owned, there}
 use Rattle.invariants.proofs.Clauses.{WellFormed, order-ok}
 use Rattle.invariants.proofs.Fates.{BothFates, Fate, fate-more, fate-none, fate-same, match-fate, noneOf, of-lessened, of-restLots, sweep-fate, swept-none, unmatched-fate}

@@ -14,14 +14,14 @@ use Rattle.rules.specs.Kinds.{lastOf}
 use Rattle.rules.specs.Step.{withLast, withPhase, withTrades, listingMatched, exchangeMatched, phaseChanged}
 use Rattle.rules.specs.WellFormed.{allNumbers, allStamps, contractInRange, markAllowed, orderInRange, sorted, tradeInRange, uncrossed, numberOf, stampOf}
 use Rattle.rules.specs.declared.{Contract.Contract, Holding.Holding, Order.Order}
-use Rattle.rules.proofs.AuctionOutcome.{auction-either, auction-price-passes, auction-taken, auction-uncrosses}
-use Rattle.rules.proofs.AuctionSteps.{match-either}
-use Rattle.rules.proofs.AuctionTaken.{Taken}
-use Rattle.rules.proofs.AuctionTrades.{match-contract, match-prices}
-use Rattle.rules.proofs.AuctionUncrossed.{hasLots}
-use Rattle.rules.proofs.Holdings.{booked-start-holding}
-use Rattle.rules.proofs.Refusals.{failed, present}
-use Rattle.rules.proofs.Sweep.{ofContract}
+use Rattle.theory.proofs.AuctionOutcome.{auction-either, auction-price-passes, auction-taken, auction-uncrosses}
+use Rattle.theory.proofs.AuctionSteps.{match-either}
+use Rattle.theory.proofs.AuctionTaken.{Taken}
+use Rattle.theory.proofs.AuctionTrades.{match-contract, match-prices}
+use Rattle.theory.proofs.AuctionUncrossed.{hasLots}
+use Rattle.theory.proofs.Holdings.{booked-start-holding}
+use Rattle.theory.proofs.Refusals.{failed, present}
+use Rattle.theory.proofs.Sweep.{ofContract}
 use Rattle.invariants.proofs.Carry.{Allows, orders-carried}
 use Rattle.invariants.proofs.Clauses.{order-ok, ListingOk, HoldingOk, MarksOk, WellFormed, Counted}
 use Rattle.invariants.proofs.InsertListing.{contract-traded}

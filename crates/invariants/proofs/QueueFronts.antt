@@ -11,10 +11,10 @@ use Rattle.rules.specs.Fairness.{PriceThenTime, isGone, lotsNumbered, lotsTrade
 use Rattle.rules.specs.Matching.{stays, withLots}
 use Rattle.rules.specs.WellFormed.{ahead, aheadOfFirst, listed, numbers, sorted, usedOnce}
 use Rattle.rules.specs.declared.{Order.Order, Trade.Trade}
-use Rattle.rules.proofs.AuctionTurns.{less-filled, less-part}
-use Rattle.rules.proofs.Queue.{lots-append, lots-met, lots-nil, lots-unmet}
-use Rattle.rules.proofs.Sorted.{AllBehind, Behind, behind-refl, sorted-behind, sorted-tail}
-use Rattle.rules.proofs.Sweep.{stays-some}
+use Rattle.theory.proofs.AuctionTurns.{less-filled, less-part}
+use Rattle.theory.proofs.Queue.{lots-append, lots-met, lots-nil, lots-unmet}
+use Rattle.theory.proofs.Sorted.{AllBehind, Behind, behind-refl, sorted-behind, sorted-tail}
+use Rattle.theory.proofs.Sweep.{stays-some}
 
 -- ---- the front of a queue
 

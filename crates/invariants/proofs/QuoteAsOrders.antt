@@ -17,9 +17,9 @@ use Rattle.rules.specs.WellFormed.{allNumbers, isQuoteOf, numberOf, quotes, wel
 use Rattle.rules.specs.declared.Answer.{Answer}
 use Rattle.rules.specs.declared.{Command.Command, NewOrder.NewOrder, Order.Order}
 use Rattle.rules.specs.declared.Command.the-variants.{Insert, Cancel, Quote}
-use Rattle.rules.proofs.Holdings.{length-bookTrades}
-use Rattle.rules.proofs.WithoutMarks.{after-unmarked, entered-unmarked, plainEntered, refusals-unmarked, withoutMarks}
-use Rattle.rules.proofs.Refusals.{first-append, present}
+use Rattle.theory.proofs.Holdings.{length-bookTrades}
+use Rattle.theory.proofs.WithoutMarks.{after-unmarked, entered-unmarked, plainEntered, refusals-unmarked, withoutMarks}
+use Rattle.theory.proofs.Refusals.{first-append, present}
 use Rattle.invariants.proofs.Clauses.{WellFormed, well-formed}
 use Rattle.invariants.proofs.Numbers.{all-uses, once-count, uses, usesIn}
 use Rattle.invariants.proofs.Removal.{removed-keeps}

@@ -13,11 +13,11 @@ use Rattle.rules.specs.Quote.{Offered, buyEntered, buyOf, half, quoteRefusals, 
 use Rattle.rules.specs.Step.{exchangeAfter, listingAfter, listingWithout, removed, without}
 use Rattle.rules.specs.WellFormed.{isQuoteOf, quotes}
 use Rattle.rules.specs.declared.Order.{Order}
-use Rattle.rules.proofs.AuctionSteps.{entered-either}
-use Rattle.rules.proofs.Holdings.{booked-maker, length-bookTrades}
-use Rattle.rules.proofs.Rest.{rest-sum}
-use Rattle.rules.proofs.Stages.{Each}
-use Rattle.rules.proofs.Refusals.{Failed, failed, failed-both, present}
+use Rattle.theory.proofs.AuctionSteps.{entered-either}
+use Rattle.theory.proofs.Holdings.{booked-maker, length-bookTrades}
+use Rattle.theory.proofs.Rest.{rest-sum}
+use Rattle.theory.proofs.Stages.{Each}
+use Rattle.theory.proofs.Refusals.{Failed, failed, failed-both, present}
 use Rattle.invariants.proofs.Clauses.{WellFormed, Counted}
 use Rattle.invariants.proofs.Insert.{entry-counted, entry-keeps}
 use Rattle.invariants.proofs.InsertAccepted.{Passes, next-given, numbers-left, order-passes}

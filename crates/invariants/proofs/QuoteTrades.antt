@@ -13,9 +13,9 @@ use Rattle.rules.specs.Step.{exchangeAfter, listingAfter}
 use Rattle.rules.specs.WellFormed.{uncrossed}
 use Rattle.rules.specs.declared.Command.the-variants.{Quote}
 use Rattle.rules.specs.declared.{Order.Order, Taker.Taker, Trade.Trade}
-use Rattle.rules.proofs.AuctionSteps.{entered-elsewhere}
-use Rattle.rules.proofs.Stages.{decided}
-use Rattle.rules.proofs.Sweep.{sweep-end, sweep-unmet}
+use Rattle.theory.proofs.AuctionSteps.{entered-elsewhere}
+use Rattle.theory.proofs.Stages.{decided}
+use Rattle.theory.proofs.Sweep.{sweep-end, sweep-unmet}
 use Rattle.invariants.specs.QuoteTrades.{OneOrderTrades}
 use Rattle.invariants.proofs.Clauses.{WellFormed}
 use Rattle.invariants.proofs.QuoteKeeps.{gone-keeps, gone-listing, gone-there, holder, listed, tests}

@@ -5,7 +5,7 @@ use Rattle.rules.specs.Exchange.{Exchange}
 use Rattle.rules.specs.Kinds.{lastOf}
 use Rattle.rules.specs.Quote.{Offered, buyEntered, quoteTrades, quoted, sellEntered, withBuy, withSell, withoutQuote}
 use Rattle.rules.specs.Step.{cancelled, exchangeAfter, removed}
-use Rattle.rules.proofs.Changes.{changed-either}
+use Rattle.theory.proofs.Changes.{changed-either}
 
 module _ (x : Exchange) where
   pub quoted-records : (q : Offered) → lastOf x (quoted x q .stages) .trades ≡ x .trades ++ quoteTrades x q

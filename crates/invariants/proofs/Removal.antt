@@ -10,9 +10,9 @@ use Rattle.rules.specs.Kinds.{lastOf}
 use Rattle.rules.specs.Step.{without, listingWithout, hasNumber, isOf, removed, cancelled, pulled}
 use Rattle.rules.specs.WellFormed.{ahead, markAllowed, sorted, orderInRange}
 use Rattle.rules.specs.declared.{Account.Account, Holding.Holding, Order.Order}
-use Rattle.rules.proofs.Queue.{length-without}
-use Rattle.rules.proofs.Sorted.{sorted-tail}
-use Rattle.rules.proofs.Refusals.{failed, present}
+use Rattle.theory.proofs.Queue.{length-without}
+use Rattle.theory.proofs.Sorted.{sorted-tail}
+use Rattle.theory.proofs.Refusals.{failed, present}
 use Rattle.invariants.proofs.Clauses.{ListingOk, HoldingOk, MarksOk, WellFormed, Counted}
 use Rattle.invariants.proofs.Marks.{markOf, marks-left}
 use Rattle.invariants.proofs.Numbers.{uses, usesIn}

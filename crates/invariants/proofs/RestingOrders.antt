@@ -12,9 +12,9 @@ use Rattle.rules.specs.Touches.{names, ordersOf, ordersWhere}
 use Rattle.rules.specs.WellFormed.{ahead, aheadOfFirst, numberOf, orderInRange, sorted, wellFormedContents}
 use Rattle.rules.specs.declared.{Command.Command, Contract.Contract, Order.Order}
 use Rattle.rules.specs.declared.Command.the-variants.{Cancel}
-use Rattle.rules.proofs.AuctionUncrossed.{hasLots}
-use Rattle.rules.proofs.Sorted.{AllBehind, Behind, behind-ahead, behind-antisym, sorted-behind, sorted-tail}
-use Rattle.rules.proofs.Touches.{accepted-step, contract-there, queues-alone, relisted}
+use Rattle.theory.proofs.AuctionUncrossed.{hasLots}
+use Rattle.theory.proofs.Sorted.{AllBehind, Behind, behind-ahead, behind-antisym, sorted-behind, sorted-tail}
+use Rattle.theory.proofs.Touches.{accepted-step, contract-there, queues-alone, relisted}
 use Rattle.invariants.proofs.Clauses.{OrderOk, Sound, WellFormed, order-ok, well-formed}
 use Rattle.invariants.proofs.EachKind.{step-fated, step-keeps}
 use Rattle.invariants.proofs.Fates.{fewer-all, kept-each}

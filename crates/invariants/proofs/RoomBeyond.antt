@@ -10,9 +10,9 @@ use Rattle.rules.specs.Kinds.{decide, step}
 use Rattle.rules.specs.Memory.{Memory, countsInRange, exchangeOf, hasRoom, inMemory, listingIn, put, putState, respond, stepIn, wellFormedMemory, written}
 use Rattle.rules.specs.Step.{answerOf}
 use Rattle.rules.specs.declared.{Command.Command, Order.Order}
-use Rattle.rules.proofs.Codecs.{length-queue, length-trades}
-use Rattle.rules.proofs.InUse.{contracts-in-use, listing-in-use}
-use Rattle.rules.proofs.Stages.{decided}
+use Rattle.theory.proofs.Codecs.{length-queue, length-trades}
+use Rattle.theory.proofs.InUse.{contracts-in-use, listing-in-use}
+use Rattle.theory.proofs.Stages.{decided}
 use Rattle.invariants.specs.InUse.{AgreeInUse, refusalIn}
 use Rattle.invariants.proofs.MemoryKeeps.{memory-keeps, read-back}
 use Rattle.invariants.proofs.MemoryRoom.{memory-ok, room-test}

@@ -11,8 +11,8 @@ use Rattle.rules.specs.Kinds.{codeOf, step}
 use Rattle.rules.specs.Memory.{Memory, exchangeOf, respond, wellFormedMemory}
 use Rattle.rules.specs.Touches.{BalanceStays, ContractStays, HeldByTrades, holdingsOf, names}
 use Rattle.rules.specs.declared.{Account.Account, Command.Command, Holding.Holding, Trade.Trade}
-use Rattle.rules.proofs.Holdings.{bookTrades-append}
-use Rattle.rules.proofs.Touches.{blank-is-refused, held-same, money-stays, other-contract-stays}
+use Rattle.theory.proofs.Holdings.{bookTrades-append}
+use Rattle.theory.proofs.Touches.{blank-is-refused, held-same, money-stays, other-contract-stays}
 use Rattle.accounting.proofs.Runs.{accepted-is, never-accepted, run-stays}
 use Rattle.invariants.proofs.Clauses.{Sound}
 use Rattle.invariants.proofs.EachKind.{step-fated, step-lives}

@@ -15,9 +15,9 @@ use Rattle.rules.specs.Settlement.{tradesIn, quotedPrice, priceFrom, settlement
 use Rattle.rules.specs.Step.{settledAll}
 use Rattle.rules.specs.WellFormed.{contractInRange, orderInRange, tradeInRange}
 use Rattle.rules.specs.declared.{Contract.Contract, Holding.Holding, Order.Order, Trade.Trade}
-use Rattle.rules.proofs.Prices.{middle-any}
-use Rattle.rules.proofs.Terms.{Terms, terms, terms-test, Multiple}
-use Rattle.rules.proofs.Refusals.{failed}
+use Rattle.theory.proofs.Prices.{middle-any}
+use Rattle.theory.proofs.Terms.{Terms, terms, terms-test, Multiple}
+use Rattle.theory.proofs.Refusals.{failed}
 use Rattle.accounting.proofs.ProfitBound.{settled-balance-bound}
 use Rattle.invariants.proofs.Clauses.{order-ok, ListingOk, TradeOk, trade-ok, WellFormed, Counted, well-formed-test}
 use Rattle.invariants.proofs.FreshDay.{fresh-counted, fresh-day}

@@ -8,7 +8,7 @@ use Rattle.rules.specs.Exchange.{worse}
 use Rattle.rules.specs.Matching.{restIn}
 use Rattle.rules.specs.WellFormed.{ahead, aheadOfFirst, sorted, uncrossed}
 use Rattle.rules.specs.declared.Order.{Order}
-use Rattle.rules.proofs.Sorted.{sorted-tail}
+use Rattle.theory.proofs.Sorted.{sorted-tail}
 
 -- ---- ahead: at a better price, or at the same one with a lower time stamp
 

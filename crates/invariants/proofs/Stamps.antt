@@ -16,8 +16,8 @@ use Rattle.rules.specs.Settlement.{settled, settledListing}
 use Rattle.rules.specs.Step.{cancelled, enteredOf, exchangeAfter, exchangeMatched, hasNumber, listingWithout, removed, withListing}
 use Rattle.rules.specs.WellFormed.{ahead, isQuoteOf}
 use Rattle.rules.specs.declared.{NewOrder.NewOrder, Order.Order}
-use Rattle.rules.proofs.AuctionTaken.{KeptWithFewer}
-use Rattle.rules.proofs.Changes.{changed-either}
+use Rattle.theory.proofs.AuctionTaken.{KeptWithFewer}
+use Rattle.theory.proofs.Changes.{changed-either}
 use Rattle.invariants.proofs.AllResting.{entered-resting, lessened-resting, matched-resting, without-resting}
 
 -- ---- which orders there may be after a step

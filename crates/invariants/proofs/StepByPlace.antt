@@ -10,10 +10,10 @@ use Rattle.rules.specs.Exchange.{Exchange, Listing, listingAt, accountAt, holdi
 use Rattle.rules.specs.Kinds.{decide, kindOf, lastOf, step}
 use Rattle.rules.specs.Memory.{Memory, Declared, exchangeOf, firstWord, listingIn, orderStride, put, putAccount, putAccounts, putFirst, putQueues, putState, queueStride, respond, stepIn, tradeStride, tradeWords, wellFormedMemory, wordOf, written}
 use Rattle.rules.specs.declared.{Account.Account, Command.Command, Order.Order}
-use Rattle.rules.proofs.Codecs.{length-queue, length-trades}
-use Rattle.rules.proofs.InUse.{contracts-in-use, listing-in-use}
-use Rattle.rules.proofs.PutByPlace.{word-putQueues, word-putQueues-past, word-putTrades}
-use Rattle.rules.proofs.Stages.{Each, decided, each-last}
+use Rattle.theory.proofs.Codecs.{length-queue, length-trades}
+use Rattle.theory.proofs.InUse.{contracts-in-use, listing-in-use}
+use Rattle.theory.proofs.PutByPlace.{word-putQueues, word-putQueues-past, word-putTrades}
+use Rattle.theory.proofs.Stages.{Each, decided, each-last}
 use Rattle.accounting.specs.Shape.{Shaped}
 use Rattle.accounting.proofs.Declared.{Counts, counted-shaped, put-declared, shaped-fits}
 use Rattle.accounting.proofs.EachKind.{kind-shape}

@@ -11,11 +11,11 @@ use Rattle.rules.specs.Matching.{Swept, counterpart, meets, sweep, tradePrice, 
 use Rattle.rules.specs.WellFormed.{numbers, sorted, usedOnce}
 use Rattle.rules.specs.declared.{Order.Order, PriceCondition.PriceCondition, Taker.Taker, Trade.Trade}
 use Rattle.rules.specs.declared.PriceCondition.the-variants.{Limit, Market, Best}
-use Rattle.rules.proofs.Between.{every-order, resting-number, swept-between, swept-in-turn, swept-pairs}
-use Rattle.rules.proofs.Fillable.{traded-cons, traded-nil, unmet-behind}
-use Rattle.rules.proofs.Prices.{RoundsTo}
-use Rattle.rules.proofs.Sorted.{AllBehind, Behind, best-first, sorted-behind, sorted-tail}
-use Rattle.rules.proofs.Sweep.{Unmet, sweep-ind, swept-each, trade-lots, trade-price}
+use Rattle.theory.proofs.Between.{every-order, resting-number, swept-between, swept-in-turn, swept-pairs}
+use Rattle.theory.proofs.Fillable.{traded-cons, traded-nil, unmet-behind}
+use Rattle.theory.proofs.Prices.{RoundsTo}
+use Rattle.theory.proofs.Sorted.{AllBehind, Behind, best-first, sorted-behind, sorted-tail}
+use Rattle.theory.proofs.Sweep.{Unmet, sweep-ind, swept-each, trade-lots, trade-price}
 use Rattle.invariants.proofs.QueueFronts.{TakenFromFront, filled-front, front-behind, front-priority, none-front, part-left}
 
 -- ---- nothing has traded

@@ -9,9 +9,9 @@ use Rattle.rules.specs.Holdings.{bookTrade, bookTrades, legCovered, bookBuyer, 
 use Rattle.rules.specs.Matching.{withLots, remainder, Swept, untouched, sweep, tradedLots, tradeWith}
 use Rattle.rules.specs.WellFormed.{orderInRange}
 use Rattle.rules.specs.declared.{Account.Account, Contract.Contract, Order.Order, PairingMethod.PairingMethod, PriceCondition.PriceCondition, Taker.Taker, Trade.Trade}
-use Rattle.rules.proofs.Fillable.{traded-nil, traded-cons}
-use Rattle.rules.proofs.Holdings.{never-nil}
-use Rattle.rules.proofs.Sweep.{trade-lots, partFilled, filled, sweep-ind}
+use Rattle.theory.proofs.Fillable.{traded-nil, traded-cons}
+use Rattle.theory.proofs.Holdings.{never-nil}
+use Rattle.theory.proofs.Sweep.{trade-lots, partFilled, filled, sweep-ind}
 use Rattle.invariants.proofs.Clauses.{order-ok}
 use Rattle.invariants.proofs.Legs.{resting-cons, Kept, buyer-covered, seller-covered, trade-kept}
 

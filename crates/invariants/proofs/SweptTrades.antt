@@ -9,8 +9,8 @@ use Rattle.rules.specs.Matching.{tradePrice, sweep, tradeWith}
 use Rattle.rules.specs.WellFormed.{orderInRange, tradeInRange}
 use Rattle.rules.specs.declared.{Contract.Contract, Order.Order, Taker.Taker}
 use Rattle.rules.specs.declared.PriceCondition.the-variants.{Limit}
-use Rattle.rules.proofs.Prices.{RoundsTo, allowed-facts, price-allowed}
-use Rattle.rules.proofs.Sweep.{swept-each}
+use Rattle.theory.proofs.Prices.{RoundsTo, allowed-facts, price-allowed}
+use Rattle.theory.proofs.Sweep.{swept-each}
 use Rattle.invariants.proofs.Carry.{Allows}
 use Rattle.invariants.proofs.Clauses.{order-ok, trade-test}
 

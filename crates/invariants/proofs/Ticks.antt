@@ -8,8 +8,8 @@ use Rattle.rules.specs.Bounds.{within, onTick, dayLow, dayHigh, allowedToday, m
 use Rattle.rules.specs.Matching.{tradedLots}
 use Rattle.rules.specs.Settlement.{tradedValue, weightedPrice}
 use Rattle.rules.specs.declared.{Contract.Contract, Trade.Trade}
-use Rattle.rules.proofs.Prices.{allowed-facts}
-use Rattle.rules.proofs.Terms.{Multiple}
+use Rattle.theory.proofs.Prices.{allowed-facts}
+use Rattle.theory.proofs.Terms.{Multiple}
 
 -- the day's range lies within one tick and 1,000,000
 pub allowed-multiple : (c : Contract) (price : ℕ) → allowedToday c price ≡ true → Multiple (c .tick) price

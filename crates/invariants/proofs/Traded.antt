@@ -10,8 +10,8 @@ use Rattle.rules.specs.Holdings.{bookTrades, neverBelowZero}
 use Rattle.rules.specs.Step.{withTrades}
 use Rattle.rules.specs.WellFormed.{allNumbers, allStamps, tradeInRange, numberOf, stampOf}
 use Rattle.rules.specs.declared.Trade.{Trade}
-use Rattle.rules.proofs.Holdings.{length-bookTrades, booked-balance, booked-maker, other-holding, replay-more, never-more}
-use Rattle.rules.proofs.Sweep.{ofContract}
+use Rattle.theory.proofs.Holdings.{length-bookTrades, booked-balance, booked-maker, other-holding, replay-more, never-more}
+use Rattle.theory.proofs.Sweep.{ofContract}
 use Rattle.invariants.proofs.Carry.{Allows, orders-carried, trades-carried}
 use Rattle.invariants.proofs.Clauses.{ListingOk, HoldingOk, MarksOk, WellFormed, Counted}
 use Rattle.invariants.proofs.Marks.{marks-carried}

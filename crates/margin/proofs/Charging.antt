@@ -8,7 +8,7 @@ use Rattle.rules.specs.Exchange.{noAccount, noContract, noHolding, restingOpens
 use Rattle.rules.specs.Margin.{chargeOf, charge, chargedLots, chargedTo, charged}
 use Rattle.rules.specs.Memory.{Memory, exchangeOf, listingIn, queueIn, memory}
 use Rattle.rules.specs.declared.{Contract.Contract, Holding.Holding, State.State}
-use Rattle.rules.proofs.InUse.{contracts-in-use, listing-in-use, holding-in-use}
+use Rattle.theory.proofs.InUse.{contracts-in-use, listing-in-use, holding-in-use}
 use Rattle.margin.specs.Charge.{listingFrom, ChargeTerms, ChargeableIn, Chargeable, Has, ChargedIs, ChargedAt}
 
 -- ---- one contract

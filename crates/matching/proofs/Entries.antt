@@ -6,9 +6,9 @@ use Rattle.laws.specs.Choice.{pick}
 use Rattle.rules.specs.Matching.{sweep, restIn, remainder, restLots, restedLots, enter}
 use Rattle.rules.specs.Memory.{queueIn, putQueue, orderStride, firstWord}
 use Rattle.rules.specs.declared.{Account.Account, Order.Order, Taker.Taker}
-use Rattle.rules.proofs.Codecs.{length-queue, put-queue, queue-put, putQueue-again}
-use Rattle.rules.proofs.Fillable.{swept-at-most}
-use Rattle.rules.proofs.Queue.{length-restIn}
+use Rattle.theory.proofs.Codecs.{length-queue, put-queue, queue-put, putQueue-again}
+use Rattle.theory.proofs.Fillable.{swept-at-most}
+use Rattle.theory.proofs.Queue.{length-restIn}
 use Rattle.matching.specs.Entry.{EntryReady, EntryIs}
 use Rattle.matching.specs.Sweep.{FilledIs}
 use Rattle.matching.specs.declared.sweep.Filled.{Filled}

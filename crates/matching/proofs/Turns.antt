@@ -11,9 +11,9 @@ use Rattle.rules.specs.Holdings.{bookTrade}
 use Rattle.rules.specs.Matching.{counterpart, tradePrice, tradeWith, withLots, Swept, untouched, sweep}
 use Rattle.rules.specs.Memory.{tradeWords, orderFrom, queueIn, putQueue, tradeStride, firstWord}
 use Rattle.rules.specs.declared.{Account.Account, Order.Order, Taker.Taker, Trade.Trade}
-use Rattle.rules.proofs.Codecs.{trade-codec, length-queue, order-at, put-queue}
+use Rattle.theory.proofs.Codecs.{trade-codec, length-queue, order-at, put-queue}
 use Rattle.book.proofs.EarlyStop.{trades-counted, count-met}
-use Rattle.rules.proofs.Sweep.{trade-lots, trade-price, sweep-end, sweep-used, sweep-unmet, sweep-part, sweep-full}
+use Rattle.theory.proofs.Sweep.{trade-lots, trade-price, sweep-end, sweep-used, sweep-unmet, sweep-part, sweep-full}
 use Rattle.holdings.specs.Bounds.{HeldWithin}
 use Rattle.matching.specs.Sweep.{SweepParties, FilledIs}
 use Rattle.holdings.proofs.Bookings.{held-more, held-trade}

@@ -24,7 +24,7 @@ use Rattle.engine.specs.Decision.{DecisionIs, acceptedBy, listedIn, refusedBy}
 use Rattle.engine.specs.Outcome.{withPhaseAt, isMatch}
 use Rattle.rules.specs.Holdings.{bookTrades}
 use Rattle.rules.specs.Matching.{lastPrice}
-use Rattle.rules.proofs.Fillable.{traded-nil}
+use Rattle.theory.proofs.Fillable.{traded-nil}
 use Rattle.engine.specs.declared.updates.Decision.{Decision}
 use Rattle.engine.specs.declared.updates.Listed.{Listed}
 use Rattle.engine.specs.declared.updates.Update.the-variants.{Listing}

@@ -21,8 +21,8 @@ use Rattle.rules.specs.declared.Command.the-variants.{Phase}
 use Rattle.rules.specs.declared.Contract.{Contract}
 use Rattle.rules.specs.declared.Order.{Order}
 use Rattle.rules.specs.declared.State.{State}
-use Rattle.rules.proofs.AuctionOutcome.{auction-count}
-use Rattle.rules.proofs.Codecs.{length-queue}
+use Rattle.theory.proofs.AuctionOutcome.{auction-count}
+use Rattle.theory.proofs.Codecs.{length-queue}
 use Rattle.auction.specs.Matched.{MatchReady, MatchedIs, fits, levelMatch}
 use Rattle.auction.specs.Price.{QueuesRoom, chosenLevel}
 use Rattle.auction.specs.declared.matched.Match.{Match}

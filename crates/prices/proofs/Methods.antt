@@ -3,7 +3,7 @@ use Rattle.laws.specs.Numbers.{ℕ, _≤_}
 use Rattle.rules.specs.Matching.{methodOf}
 use Rattle.rules.specs.declared.{Contract.Contract, PairingMethod.PairingMethod}
 use Rattle.rules.specs.declared.PairingMethod.the-variants.{Middle, Average, FirstIn}
-use Rattle.rules.proofs.Prices.{RoundsTo, method-rounds}
+use Rattle.theory.proofs.Prices.{RoundsTo, method-rounds}
 use Rattle.prices.specs.Methods.{HasTick}
 
 has-tick : (tick : ℕ) (method : PairingMethod) → 1 ≤ tick → RoundsTo tick method → HasTick method

@@ -10,8 +10,8 @@ use Rattle.rules.specs.Matching.{sweep, tradedLots}
 use Rattle.rules.specs.Memory.{Memory, exchangeOf, queueIn, wellFormedMemory, memory, WellFormedState}
 use Rattle.rules.specs.declared.Command.the-variants.{Insert}
 use Rattle.rules.specs.declared.{NewOrder.NewOrder, Record.Record, State.State, Taker.Taker}
-use Rattle.rules.proofs.EachKind.{inserts-its-order}
-use Rattle.rules.proofs.Fillable.{swept-fillable}
+use Rattle.theory.proofs.EachKind.{inserts-its-order}
+use Rattle.theory.proofs.Fillable.{swept-fillable}
 use Rattle.engine.specs.Outcome.{AbsentIs}
 use Rattle.engine.proofs.Formed.{Formed, formed, no-account, no-contract}
 use Rattle.engine.proofs.Named.{one-absent}

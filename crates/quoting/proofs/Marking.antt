@@ -15,7 +15,7 @@ use Rattle.rules.specs.Kinds.{refused}
 use Rattle.rules.specs.Memory.{Memory, AfterCommand, WellFormedState, exchangeOf, inMemory, memory}
 use Rattle.rules.specs.declared.NewOrder.{NewOrder}
 use Rattle.rules.specs.declared.State.{State}
-use Rattle.rules.proofs.Refusals.{Failed, failed}
+use Rattle.theory.proofs.Refusals.{Failed, failed}
 use Rattle.invariants.proofs.InsertAccepted.{Passes, next-given, numbers-left, order-passes}
 use Rattle.invariants.proofs.Marks.{Marks}
 use Rattle.engine.specs.Outcome.{OutcomeIs, refusedWith}

@@ -26,14 +26,14 @@ use Rattle.rules.specs.declared.NewOrder.{NewOrder}
 use Rattle.rules.specs.declared.Order.{Order}
 use Rattle.rules.specs.declared.State.{State}
 use Rattle.rules.specs.declared.Trade.{Trade}
-use Rattle.rules.proofs.AuctionSteps.{entered-either, trades-needed}
-use Rattle.rules.proofs.Codecs.{length-queue}
-use Rattle.rules.proofs.InUse.{account-in-use}
-use Rattle.rules.proofs.Fillable.{swept-at-most, traded-nil}
+use Rattle.theory.proofs.AuctionSteps.{entered-either, trades-needed}
+use Rattle.theory.proofs.Codecs.{length-queue}
+use Rattle.theory.proofs.InUse.{account-in-use}
+use Rattle.theory.proofs.Fillable.{swept-at-most, traded-nil}
 use Rattle.book.proofs.EarlyStop.{trades-counted}
-use Rattle.rules.proofs.Queue.{length-without}
-use Rattle.rules.proofs.Stages.{Each}
-use Rattle.rules.proofs.Refusals.{Failed, both-zero, failed, first-append, first-here, first-there}
+use Rattle.theory.proofs.Queue.{length-without}
+use Rattle.theory.proofs.Stages.{Each}
+use Rattle.theory.proofs.Refusals.{Failed, both-zero, failed, first-append, first-here, first-there}
 use Rattle.book.specs.Removal.{RemovedIs}
 use Rattle.accounting.proofs.Declared.{stage-declared}
 use Rattle.accounting.proofs.QuoteMoves.{quoted-shape}

@@ -20,7 +20,7 @@ use Rattle.rules.specs.Memory.{WellFormedState, orderWords, putQueue, queueStri
 use Rattle.rules.specs.declared.Order.{Order}
 use Rattle.rules.specs.declared.State.{State}
 use Rattle.rules.specs.declared.Trade.{Trade}
-use Rattle.rules.proofs.Codecs.{order-codec, trade-codec}
+use Rattle.theory.proofs.Codecs.{order-codec, trade-codec}
 use Rattle.engine.proofs.Formed.{formed}
 use Rattle.quoting.specs.Placing.{Undoable, madeFrom}
 

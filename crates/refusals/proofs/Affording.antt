@@ -20,7 +20,7 @@ use Rattle.rules.specs.declared.Account.{Account}
 use Rattle.rules.specs.declared.Holding.{Holding}
 use Rattle.rules.specs.declared.NewOrder.{NewOrder}
 use Rattle.rules.specs.declared.State.{State}
-use Rattle.rules.proofs.InUse.{used-leg}
+use Rattle.theory.proofs.InUse.{used-leg}
 use Rattle.holdings.specs.Bounds.{HoldingWithin, bookedMost}
 use Rattle.margin.specs.Charge.{Chargeable, ChargeableIn, ChargedIs}
 use Rattle.refusals.specs.Insertion.{Present}

@@ -18,7 +18,7 @@ use Rattle.rules.specs.Memory.{orderFrom, queueIn, firstWord}
 use Rattle.rules.specs.declared.Contract.{Contract}
 use Rattle.rules.specs.declared.Order.{Order}
 use Rattle.rules.specs.declared.Taker.{Taker}
-use Rattle.rules.proofs.Codecs.{length-queue, order-at}
+use Rattle.theory.proofs.Codecs.{length-queue, order-at}
 use Rattle.book.proofs.EarlyStop.{front-fillable, trades-counted}
 use Rattle.refusals.specs.Insertion.{Facing, QueueRoom}
 

@@ -12,7 +12,7 @@ use Rattle.rules.specs.Bounds.{continuous, maxAccounts, maxContracts, termsInRa
 use Rattle.rules.specs.Exchange.{Exchange, listingAt, noContract, placeOf}
 use Rattle.rules.specs.Memory.{Memory, WellFormedState, exchangeOf, firstWord, memory}
 use Rattle.rules.specs.declared.State.{State}
-use Rattle.rules.proofs.Refusals.{Failed}
+use Rattle.theory.proofs.Refusals.{Failed}
 use Rattle.engine.proofs.Formed.{Formed, formed}
 use Rattle.engine.proofs.Named.{account-there, contract-there}
 use Rattle.engine.proofs.Removals.{in-continuous, side-room}

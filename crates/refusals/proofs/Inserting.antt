@@ -22,8 +22,8 @@ use Rattle.rules.specs.declared.NewOrder.{NewOrder}
 use Rattle.rules.specs.declared.Order.{Order}
 use Rattle.rules.specs.declared.State.{State}
 use Rattle.rules.specs.declared.Taker.{Taker}
-use Rattle.rules.proofs.Codecs.{length-queue}
-use Rattle.rules.proofs.Refusals.{failed, first-here, first-there}
+use Rattle.theory.proofs.Codecs.{length-queue}
+use Rattle.theory.proofs.Refusals.{failed, first-here, first-there}
 use Rattle.engine.proofs.Formed.{Formed, formed, holding-at}
 use Rattle.engine.proofs.Named.{allowed, forbidden, no-such-account, no-such-contract}
 use Rattle.engine.proofs.Puts.{trades-count}

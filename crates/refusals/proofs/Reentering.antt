@@ -11,7 +11,7 @@ use Rattle.rules.specs.Bounds.{numbersEnd}
 use Rattle.rules.specs.Change.{reentryRefusals}
 use Rattle.rules.specs.Exchange.{Exchange}
 use Rattle.rules.specs.declared.NewOrder.{NewOrder}
-use Rattle.rules.proofs.Refusals.{first-here, first-there}
+use Rattle.theory.proofs.Refusals.{first-here, first-there}
 
 module _ (x : Exchange) (o : NewOrder) (number : ℕ) {account : ℕ} (ex : account ≡ firstOf (accountRefusals x o)) where
   abbrev code : ℕ

@@ -15,8 +15,8 @@ use Rattle.rules.specs.WellFormed.{orderInRange, sorted}
 use Rattle.rules.specs.declared.Contract.{Contract}
 use Rattle.rules.specs.declared.NewOrder.{NewOrder}
 use Rattle.rules.specs.declared.Order.{Order}
-use Rattle.rules.proofs.Codecs.{length-queue}
-use Rattle.rules.proofs.Terms.{terms, terms-passed}
+use Rattle.theory.proofs.Codecs.{length-queue}
+use Rattle.theory.proofs.Terms.{terms, terms-passed}
 use Rattle.holdings.specs.Bounds.{HoldingWithin, heldMost}
 use Rattle.invariants.proofs.Clauses.{HoldingOk, ListingOk, order-ok}
 use Rattle.engine.specs.Sides.{sideArea, sideCount}

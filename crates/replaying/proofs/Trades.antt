@@ -4,7 +4,7 @@ use Rattle.laws.specs.Numbers.{ℕ, _+_, _*_, _<_, _≤_, add-one, drop, drop-o
 use Rattle.rules.specs.Exchange.{noTrade}
 use Rattle.rules.specs.Memory.{tradeFrom, recordedTrades, tradeStride}
 use Rattle.rules.specs.declared.Trade.{Trade}
-use Rattle.rules.proofs.Codecs.{length-trades, trade-at}
+use Rattle.theory.proofs.Codecs.{length-trades, trade-at}
 
 module _ (area : List ℕ) (n i : ℕ) where
   pub next-trade : {t : Trade} → i < n → t ≡ tradeFrom (drop (tradeStride * i) area) → drop i (recordedTrades area n) ≡ t ∷ drop (i + 1) (recordedTrades area n)

@@ -7,7 +7,7 @@ use Rattle.rules.specs.Exchange.{accountAt, holdingAt, noAccount, noHolding, no
 use Rattle.rules.specs.Holdings.{afterLeg, bookBuyer, bookLeg, bookSeller, bookTrade, bookTrades, legCovered, neverBelowZero, withHolding, withLong, withShort}
 use Rattle.rules.specs.Memory.{recordedTrades, tradeFrom, used, tradeStride}
 use Rattle.rules.specs.declared.{Account.Account, Holding.Holding, Trade.Trade}
-use Rattle.rules.proofs.Codecs.{trade-at}
+use Rattle.theory.proofs.Codecs.{trade-at}
 use Rattle.holdings.specs.Bounds.{HoldingWithin, bookedMost}
 use Rattle.replaying.specs.Parts.{Booked, ReplayIs}
 use Rattle.replaying.proofs.Trades.{next-trade, no-trades}

@@ -6,7 +6,7 @@ use Rattle.rules.specs.Exchange.{accountAt, holdingAt, noAccount, noHolding}
 use Rattle.rules.specs.Holdings.{afterLeg, bookLeg, legCovered, withHolding}
 use Rattle.rules.specs.Memory.{used}
 use Rattle.rules.specs.declared.{Account.Account, Holding.Holding}
-use Rattle.rules.proofs.InUse.{used-holding, used-leg}
+use Rattle.theory.proofs.InUse.{used-holding, used-leg}
 
 -- a leg on one account is a leg on its place
 read-alone : (l : List Account) (a c : ℕ) → holdingAt (getD l a noAccount ∷ []) 0 c ≡ holdingAt l a c

@@ -13,7 +13,7 @@ use Rattle.areas.proofs.Records.{records-add}
 use Rattle.rules.specs.Lines.{tradeLine, tradeLines}
 use Rattle.rules.specs.Memory.{recordedTrades, tradeFrom, tradeStride}
 use Rattle.rules.specs.declared.Trade.{Trade}
-use Rattle.rules.proofs.Codecs.{trade-codec, length-trades}
+use Rattle.theory.proofs.Codecs.{trade-codec, length-trades}
 use Rattle.endian.specs.Written.{Written}
 use Rattle.endian.proofs.Writes.{no-byte, looser, then}
 use Rattle.lines.specs.Tables.{tradeLineMost}

@@ -25,9 +25,9 @@ use Rattle.rules.specs.declared.Answer.{Answer}
 use Rattle.rules.specs.declared.Command.{Command}
 use Rattle.rules.specs.declared.Command.the-variants.{Settle}
 use Rattle.rules.specs.declared.State.{State}
-use Rattle.rules.proofs.Codecs.{length-trades}
-use Rattle.rules.proofs.EachKind.{settle-is}
-use Rattle.rules.proofs.Stages.{decided}
+use Rattle.theory.proofs.Codecs.{length-trades}
+use Rattle.theory.proofs.EachKind.{settle-is}
+use Rattle.theory.proofs.Stages.{decided}
 use Rattle.accounting.proofs.Declared.{declared-kept}
 use Rattle.invariants.proofs.MemoryKeeps.{memory-keeps, step-in-read}
 use Rattle.engine.proofs.Formed.{formed, account-at, accounts-count, contracts-count}

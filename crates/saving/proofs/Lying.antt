@@ -14,9 +14,9 @@ use Rattle.rules.specs.Exchange.{accountAt, holdingAt, listingAt, noAccount, no
 use Rattle.rules.specs.Memory.{Declared, Memory, exchangeOf, inUse, listingIn, used, wellFormedMemory}
 use Rattle.rules.specs.declared.Account.{Account}
 use Rattle.rules.specs.declared.Holding.{Holding}
-use Rattle.rules.proofs.Codecs.{length-queue, length-trades}
-use Rattle.rules.proofs.InUse.{account-in-use, accounts-in-use, contracts-in-use, listing-in-use}
-use Rattle.rules.proofs.Terms.{contract-terms}
+use Rattle.theory.proofs.Codecs.{length-queue, length-trades}
+use Rattle.theory.proofs.InUse.{account-in-use, accounts-in-use, contracts-in-use, listing-in-use}
+use Rattle.theory.proofs.Terms.{contract-terms}
 use Rattle.invariants.proofs.Clauses.{well-formed}
 use Rattle.invariants.proofs.MemoryRoom.{CountsOk, memory-ok}
 use Rattle.sections.specs.Sections.{holdingBytes, holdingsBytes, inRow}

@@ -11,7 +11,7 @@ use borrow.Author.Tests.{eq-eqb, ne-eqb, le-leb, lt-leb}
 use Rattle.laws.specs.Choice.{false-both}
 use Rattle.rules.specs.Bounds.{maxAccounts, maxContracts}
 use Rattle.rules.specs.DayFile.{contractsIn, u8At, u32At, countWidth}
-use Rattle.rules.proofs.Terms.{within-high, within-low, within-test}
+use Rattle.theory.proofs.Terms.{within-high, within-low, within-test}
 use Rattle.sections.specs.Sections.{holdingWidth}
 use Rattle.statefile.specs.StateFile.{savedAccountPlace, savedAccountsIn, countsRight, markSound, rowPlace, settlementsPlace, shaped, balanceWidth, savedAccountWidth, savedContractWidth, settlementsWidth}
 use Rattle.dayfile.specs.FileHead.{countBefore}

@@ -10,7 +10,7 @@ use borrow.Author.Tests.{lt-ltb}
 use Rattle.areas.specs.Lists.{over}
 use Rattle.rules.specs.Answers.{firstOf}
 use Rattle.rules.specs.Memory.{Declared, Memory, exchangeOf, wellFormedMemory}
-use Rattle.rules.proofs.InUse.{contracts-in-use}
+use Rattle.theory.proofs.InUse.{contracts-in-use}
 use Rattle.invariants.proofs.MemoryRoom.{CountsOk, memory-ok}
 use Rattle.statefile.specs.StateFile.{WrittenIs, savedBytes, settlementsPlace, writable, writeCode, settlementsWidth}
 use Rattle.statefile.proofs.Continued.{savable, writes}

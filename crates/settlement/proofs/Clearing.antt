@@ -6,7 +6,7 @@ use Rattle.areas.proofs.Changes.{emptied}
 use Rattle.rules.specs.Exchange.{noOrder, noTrade}
 use Rattle.rules.specs.Memory.{putQueue, putQueues, putTrades, queueStride, tradeStride, firstWord}
 use Rattle.rules.specs.declared.Order.{Order}
-use Rattle.rules.proofs.Codecs.{order-codec, trade-codec, length-putQueue}
+use Rattle.theory.proofs.Codecs.{order-codec, trade-codec, length-putQueue}
 use Rattle.settlement.specs.Settling.{Clearable}
 
 -- a queue cleared

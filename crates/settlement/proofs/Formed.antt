@@ -9,9 +9,9 @@ use Rattle.rules.specs.Memory.{Memory, Declared, exchangeOf, listingIn, recorde
 use Rattle.rules.specs.Settlement.{dayStart, legs, settlementPrice}
 use Rattle.rules.specs.WellFormed.{tradeInRange}
 use Rattle.rules.specs.declared.{State.State, Trade.Trade}
-use Rattle.rules.proofs.Codecs.{length-trades}
-use Rattle.rules.proofs.InUse.{contracts-in-use, accounts-in-use, listing-in-use, holding-in-use}
-use Rattle.rules.proofs.Terms.{Terms, contract-terms}
+use Rattle.theory.proofs.Codecs.{length-trades}
+use Rattle.theory.proofs.InUse.{contracts-in-use, accounts-in-use, listing-in-use, holding-in-use}
+use Rattle.theory.proofs.Terms.{Terms, contract-terms}
 use Rattle.accounting.specs.DayLegs.{AllCovered}
 use Rattle.accounting.proofs.Facts.{trade-facts}
 use Rattle.accounting.proofs.PriceBound.{settlement-price-bound}

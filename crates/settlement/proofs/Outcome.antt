@@ -17,8 +17,8 @@ use Rattle.rules.specs.Settlement.{settlementPrice, settledAccount, settledCont
 use Rattle.rules.specs.Step.{settledAll}
 use Rattle.rules.specs.declared.{Account.Account, Contract.Contract, Order.Order, State.State}
 use Rattle.rules.specs.declared.Command.the-variants.{Settle}
-use Rattle.rules.proofs.InUse.{contracts-in-use, listing-in-use, account-in-use}
-use Rattle.rules.proofs.Refusals.{failed}
+use Rattle.theory.proofs.InUse.{contracts-in-use, listing-in-use, account-in-use}
+use Rattle.theory.proofs.Refusals.{failed}
 use Rattle.invariants.proofs.MemoryKeeps.{accepted-read, accepted-keeps}
 use Rattle.invariants.proofs.MemoryRoom.{memory-ok}
 use Rattle.settlement.specs.Settling.{AllPriceable, pricesDue, Settleable, SettledIs, HasDay, AllPayable, BooksOf, BooksIs, AllClearable, ClearedAre, AllChargeable, ChargesAre, nextDay}

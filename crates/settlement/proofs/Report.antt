@@ -10,7 +10,7 @@ use Rattle.rules.specs.Margin as margin
 use Rattle.rules.specs.Memory.{Memory, exchangeOf, listingIn, memory}
 use Rattle.rules.specs.Settlement.{settlementPrice}
 use Rattle.rules.specs.declared.State.{State}
-use Rattle.rules.proofs.InUse.{listing-in-use}
+use Rattle.theory.proofs.InUse.{listing-in-use}
 use Rattle.dayprofit.specs.Day.{PriceIs}
 use Rattle.margin.specs.Charge.{ChargedAt}
 use Rattle.margin.proofs.Charging.{charged-at}

@@ -18,8 +18,8 @@ use Rattle.rules.specs.Exchange.{Exchange, accountAt, holdingAt, noAccount, noH
 use Rattle.rules.specs.Memory.{Declared, Memory, exchangeOf, hasRoom, respond, wellFormedMemory}
 use Rattle.rules.specs.WellFormed.{wellFormedContents}
 use Rattle.rules.specs.declared.Command.{Command}
-use Rattle.rules.proofs.InUse.{accounts-in-use, contracts-in-use}
-use Rattle.rules.proofs.Terms.{within-test}
+use Rattle.theory.proofs.InUse.{accounts-in-use, contracts-in-use}
+use Rattle.theory.proofs.Terms.{within-test}
 use Rattle.accounting.specs.Shape.{Shaped}
 use Rattle.accounting.proofs.Condition3.{as-loaded, as-opened, opening-loaded}
 use Rattle.accounting.proofs.Declared.{declared-shaped}

@@ -19,8 +19,8 @@ use Rattle.rules.specs.Memory.{Declared, Memory, countsInRange, exchangeOf, has
 use Rattle.rules.specs.WellFormed.{wellFormedContents}
 use Rattle.rules.specs.declared.Account.{Account}
 use Rattle.rules.specs.declared.Trade.{Trade}
-use Rattle.rules.proofs.Codecs.{queue-none, trades-none}
-use Rattle.rules.proofs.Terms.{within-high, within-low}
+use Rattle.theory.proofs.Codecs.{queue-none, trades-none}
+use Rattle.theory.proofs.Terms.{within-high, within-low}
 use Rattle.accounting.proofs.Declared.{put-declared}
 use Rattle.invariants.proofs.MemoryLaws.{put-first-at}
 use Rattle.invariants.proofs.MemoryRoom.{CountsOk, counts-test, memory-test, room-ok}

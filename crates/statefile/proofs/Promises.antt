@@ -11,7 +11,7 @@ use Rattle.rules.specs.Condition3.{Loaded}
 use Rattle.rules.specs.DayFile.{countWidth}
 use Rattle.rules.specs.Exchange.{Exchange}
 use Rattle.rules.specs.Memory.{Declared, Memory, exchangeOf, hasRoom, wellFormedMemory}
-use Rattle.rules.proofs.Refusals.{failed}
+use Rattle.theory.proofs.Refusals.{failed}
 use Rattle.statefile.specs.StateFile.{allEqual, loadedFrom, loadedInto, readCode, savedBytes, savedSound, writable, writeCode, savedAccountWidth, savedContractWidth, settlementsWidth}
 use Rattle.statefile.proofs.Again.{loaded-savable, loaded-writable, sound-parts, write-again}
 use Rattle.statefile.proofs.Continued.{loadable, writable-loaded, writes}

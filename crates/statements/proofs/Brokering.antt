@@ -12,8 +12,8 @@ use Rattle.rules.specs.Exchange.{Exchange, accountAt, contractAt, holdingAt, li
 use Rattle.rules.specs.Memory.{Memory, exchangeOf, listingIn, recordedTrades, tradeWords, used, wellFormedMemory, memory, tradeStride, tradesWords}
 use Rattle.rules.specs.WellFormed.{tradeInRange}
 use Rattle.rules.specs.declared.{State.State, Trade.Trade}
-use Rattle.rules.proofs.Codecs.{length-trades, trade-codec}
-use Rattle.rules.proofs.InUse.{accounts-in-use, contracts-in-use}
+use Rattle.theory.proofs.Codecs.{length-trades, trade-codec}
+use Rattle.theory.proofs.InUse.{accounts-in-use, contracts-in-use}
 use Rattle.accounting.proofs.Facts.{TradeFacts, facts, trade-facts}
 use Rattle.invariants.proofs.MemoryRoom.{memory-ok}
 use Rattle.dayprofit.specs.Day.{AllSized, SizedTrades}

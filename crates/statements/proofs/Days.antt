@@ -15,8 +15,8 @@ use Rattle.rules.specs.Holdings.{bookTrades, neverBelowZero, startOfDay}
 use Rattle.rules.specs.Memory.{Declared, exchangeOf, inUse, listingIn, recordedTrades, used, memory}
 use Rattle.rules.specs.Settlement.{closingProfit, dayStart, legs, holdingProfit, settlementPrice}
 use Rattle.rules.specs.declared.{Account.Account, State.State, Trade.Trade}
-use Rattle.rules.proofs.Codecs.{length-trades}
-use Rattle.rules.proofs.InUse.{contracts-in-use, listing-in-use, used-at, used-holding}
+use Rattle.theory.proofs.Codecs.{length-trades}
+use Rattle.theory.proofs.InUse.{contracts-in-use, listing-in-use, used-at, used-holding}
 use Rattle.accounting.specs.DayLegs.{AllCovered}
 use Rattle.accounting.proofs.Replay.{replay-covered}
 use Rattle.settlement.specs.Settling.{AllPayable, BooksIs, HasDay, accountIn, pricesDue}

@@ -6,8 +6,8 @@ use Rattle.laws.specs.Choice.{either-false}
 use Rattle.rules.specs.Answers.{_when_}
 use Rattle.rules.specs.Exchange.{Exchange, placeOf}
 use Rattle.rules.specs.Memory.{Memory, exchangeOf, wellFormedMemory}
-use Rattle.rules.proofs.InUse.{contracts-in-use}
-use Rattle.rules.proofs.Refusals.{Failed, failed}
+use Rattle.theory.proofs.InUse.{contracts-in-use}
+use Rattle.theory.proofs.Refusals.{Failed, failed}
 use Rattle.accounting.proofs.Facts.{facts}
 use Rattle.invariants.proofs.MemoryRoom.{memory-ok}
 use Rattle.clients.specs.Clients.{Clients, maxClients}

@@ -6,7 +6,7 @@ use Rattle.rules.specs.Answers.{firstOf}
 use Rattle.rules.specs.Exchange.{Exchange, absent, noAccount, noHolding, placeOf, isAbsent}
 use Rattle.rules.specs.Memory.{Memory, exchangeOf, wellFormedMemory, WellFormedState, memory}
 use Rattle.rules.specs.declared.{Holding.Holding, State.State}
-use Rattle.rules.proofs.InUse.{contracts-in-use, holding-in-use}
+use Rattle.theory.proofs.InUse.{contracts-in-use, holding-in-use}
 use Rattle.engine.proofs.Formed.{formed, no-account}
 use Rattle.statements.specs.Parts.{AnswerIs, Postable, PostedIs, broker, refusedWith}
 use Rattle.clients.specs.Clients.{Clients, clientExchange, startLong, startShort, startsAddUp, total, maxClients}

@@ -8,7 +8,7 @@ use Rattle.rules.specs.Bounds.{maxResting}
 use Rattle.rules.specs.Exchange.{noTrade}
 use Rattle.rules.specs.Memory.{recordedTrades}
 use Rattle.rules.specs.declared.Trade.{Trade}
-use Rattle.rules.proofs.Codecs.{length-trades}
+use Rattle.theory.proofs.Codecs.{length-trades}
 use Rattle.endian.specs.Written.{Written}
 use Rattle.endian.proofs.Writes.{then, no-byte, looser, length-four}
 use Rattle.endian.specs.Numbers.{two, four, eight, unsigned}

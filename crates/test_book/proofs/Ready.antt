@@ -16,9 +16,9 @@ use Rattle.rules.specs.declared.Order.{Order}
 use Rattle.rules.specs.declared.PairingMethod.the-variants.{Middle}
 use Rattle.rules.specs.declared.Taker.{Taker}
 use Rattle.rules.specs.declared.Trade.{Trade}
-use Rattle.rules.proofs.Codecs.{length-queue, order-at, order-words}
+use Rattle.theory.proofs.Codecs.{length-queue, order-at, order-words}
 use Rattle.book.proofs.EarlyStop.{trades-counted}
-use Rattle.rules.proofs.Queue.{length-restIn}
+use Rattle.theory.proofs.Queue.{length-restIn}
 use Rattle.holdings.specs.Bounds.{HoldingWithin}
 use Rattle.matching.specs.Entry.{EntryReady}
 use Rattle.test_book.specs.Known.{AccountsKnown, noHoldings}

@@ -5,7 +5,7 @@ use denote.Ref.{now}
 use Rattle.rules.specs.Answers.{firstOf, namedRefusals, notContinuous}
 use Rattle.rules.specs.Exchange.{placeOf}
 use Rattle.rules.specs.Memory.{exchangeOf, memory}
-use Rattle.rules.proofs.Refusals.{Failed, failed}
+use Rattle.theory.proofs.Refusals.{Failed, failed}
 use Rattle.engine.specs.Decision.{listedIn}
 use Rattle.engine.proofs.Decisions.{held-here}
 use Rattle.engine.proofs.Formed.{formed}

@@ -2,7 +2,7 @@
 use mathlib.Core.Path.{sym, ap}
 use borrow.Author.Needs.{needs}
 use Rattle.rules.specs.Command.{isMalformed}
-use Rattle.rules.proofs.EachKind.{other-kind}
+use Rattle.theory.proofs.EachKind.{other-kind}
 use Rattle.commands.proofs.is_malformed.Statement.{statement}
 use Rattle.commands.proofs.is_malformed.Tie as tie
 

@@ -7,7 +7,7 @@ use borrow.Author.Needs.{needs}
 use denote.Ref.{now}
 use Rattle.rules.specs.Command.{isInsert}
 use Rattle.rules.specs.Memory.{wellFormedMemory, memory}
-use Rattle.rules.proofs.EachKind.{other-kind}
+use Rattle.theory.proofs.EachKind.{other-kind}
 use Rattle.engine.proofs.Declared.{declared}
 use Rattle.query.proofs.Asking.{an-insert, no-insert, not-formed}
 use Rattle.query.proofs.gettable_record.Statement.{statement}

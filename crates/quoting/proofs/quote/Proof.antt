@@ -9,7 +9,7 @@ use Rattle.rules.specs.Answers.{firstOf, namedRefusals, notContinuous}
 use Rattle.rules.specs.Bounds.{maxContracts}
 use Rattle.rules.specs.Exchange.{placeOf}
 use Rattle.rules.specs.Memory.{exchangeOf, memory}
-use Rattle.rules.proofs.Refusals.{Failed}
+use Rattle.theory.proofs.Refusals.{Failed}
 use Rattle.engine.proofs.Decisions.{held-here, refusal-decided}
 use Rattle.engine.proofs.Formed.{formed, no-account}
 use Rattle.quoting.specs.Placing.{earlyRefusals}

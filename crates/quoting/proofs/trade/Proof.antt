@@ -8,7 +8,7 @@ use denote.Ref.{now}
 use Rattle.rules.specs.Answers.{firstOf, namedRefusals, notContinuous}
 use Rattle.rules.specs.Exchange.{placeOf}
 use Rattle.rules.specs.Memory.{exchangeOf, memory}
-use Rattle.rules.proofs.Refusals.{Failed}
+use Rattle.theory.proofs.Refusals.{Failed}
 use Rattle.engine.proofs.Formed.{formed}
 use Rattle.quoting.specs.Placing.{earlyRefusals}
 use Rattle.refusals.proofs.Continuous.{contract-here, contract-low}

@@ -2,7 +2,7 @@
 use borrow.Author.Tests.{not-true, not-false}
 use borrow.Author.Needs.{needs}
 use Rattle.rules.specs.Bounds.{allowedToday}
-use Rattle.rules.proofs.Terms.{terms}
+use Rattle.theory.proofs.Terms.{terms}
 use Rattle.terms.proofs.allowed_today.Statement.{statement}
 use Rattle.terms.proofs.allowed_today.Tie as tie
 

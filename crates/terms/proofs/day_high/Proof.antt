@@ -3,7 +3,7 @@ use native.Mathlib.Nat.{div-add-mod'}
 use native.Mathlib.Omega.{arith}
 use borrow.Author.Needs.{needs}
 use Rattle.rules.specs.Bounds.{dayHigh}
-use Rattle.rules.proofs.Terms.{terms}
+use Rattle.theory.proofs.Terms.{terms}
 use Rattle.terms.proofs.day_high.Statement.{statement}
 use Rattle.terms.proofs.day_high.Tie as tie
 

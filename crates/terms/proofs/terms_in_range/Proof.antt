@@ -7,7 +7,7 @@ use lib.Dec.{leb}
 use Rattle.laws.specs.Tests.{Chain, fails, last, passed, refused}
 use Rattle.rules.specs.Bounds.{maxMethod, tickMultiple, termsInRange, within, maxMultiplier, maxTick, maxLimit, maxRate}
 use Rattle.rules.specs.declared.Contract.{Contract}
-use Rattle.rules.proofs.Terms.{within-low}
+use Rattle.theory.proofs.Terms.{within-low}
 use Rattle.terms.proofs.terms_in_range.Statement.{statement}
 use Rattle.terms.proofs.terms_in_range.Tie as tie
 

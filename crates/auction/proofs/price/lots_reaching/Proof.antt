@@ -9,7 +9,7 @@ use lib.ListN.{drop}
 use Rattle.rules.specs.Auction.{lotsReaching}
 use Rattle.rules.specs.Memory.{queueIn}
 use Rattle.book.proofs.Queues.{tally-on, tally-end}
-use Rattle.rules.proofs.AuctionTaken.{reaching-nil}
+use Rattle.theory.proofs.AuctionTaken.{reaching-nil}
 use Rattle.auction.proofs.Levels.{reaching-on, reaching-within}
 use Rattle.auction.proofs.price.lots_reaching.Statement.{statement}
 use Rattle.auction.proofs.price.lots_reaching.Tie as tie

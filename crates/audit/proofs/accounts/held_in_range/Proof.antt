@@ -9,7 +9,7 @@ use Rattle.laws.specs.Tests.{passed, refused}
 use Rattle.rules.specs.Exchange.{accountAt, holdingAt}
 use Rattle.rules.specs.Memory.{listingIn}
 use Rattle.rules.specs.WellFormed.{holdingInRange}
-use Rattle.rules.proofs.Codecs.{length-queue}
+use Rattle.theory.proofs.Codecs.{length-queue}
 use Rattle.invariants.proofs.MemoryRoom.{counts-ok}
 use Rattle.audit.specs.Parts.{listing}
 use Rattle.audit.proofs.RestingSums.{held-same, orders-summable}

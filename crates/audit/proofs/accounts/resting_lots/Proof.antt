@@ -8,7 +8,7 @@ use Rattle.rules.specs.Bounds.{maxAccounts}
 use Rattle.rules.specs.Exchange.{noOrder}
 use Rattle.rules.specs.Memory.{queueIn}
 use Rattle.rules.specs.declared.Order.{Order}
-use Rattle.rules.proofs.Codecs.{length-queue, order-at}
+use Rattle.theory.proofs.Codecs.{length-queue, order-at}
 use Rattle.audit.specs.Parts.{Summable}
 use Rattle.audit.proofs.RestingSums.{Summing, summing-all, summing-more, summing-none}
 use Rattle.audit.proofs.accounts.resting_lots.Statement.{statement}

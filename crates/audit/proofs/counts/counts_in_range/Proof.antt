@@ -3,7 +3,7 @@ use mathlib.Core.Path.{_∙_}
 use borrow.Author.Needs.{needs}
 use borrow.Author.Tests.{le-leb, lt-leb}
 use Rattle.laws.specs.Tests.{_and_, fails, last, passed, refused}
-use Rattle.rules.proofs.Terms.{within-above, within-below, within-test}
+use Rattle.theory.proofs.Terms.{within-above, within-below, within-test}
 use Rattle.audit.proofs.Clauses.{counts-chain}
 use Rattle.audit.proofs.counts.counts_in_range.Statement.{statement}
 use Rattle.audit.proofs.counts.counts_in_range.Tie as tie

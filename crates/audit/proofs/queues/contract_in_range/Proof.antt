@@ -3,7 +3,7 @@ use mathlib.Core.Path.{_∙_}
 use borrow.Author.Needs.{needs}
 use borrow.Author.Tests.{le-leb, lt-leb}
 use Rattle.laws.specs.Tests.{fails, last, passed, refused}
-use Rattle.rules.proofs.Terms.{terms}
+use Rattle.theory.proofs.Terms.{terms}
 use Rattle.audit.proofs.Clauses.{contract-chain}
 use Rattle.audit.proofs.queues.contract_in_range.Statement.{statement}
 use Rattle.audit.proofs.queues.contract_in_range.Tie as tie

@@ -3,7 +3,7 @@ use mathlib.Core.Path.{_∙_}
 use borrow.Author.Needs.{needs}
 use Rattle.laws.specs.Tests.{_and_, fails, last, passed, refused}
 use Rattle.rules.specs.Memory.{listingIn}
-use Rattle.rules.proofs.Terms.{terms-passed}
+use Rattle.theory.proofs.Terms.{terms-passed}
 use Rattle.audit.proofs.Clauses.{listing-chain}
 use Rattle.audit.proofs.Rooms.{buys-room, contract-in, sells-room}
 use Rattle.audit.proofs.queues.listing_in_range.Statement.{statement}

@@ -4,7 +4,7 @@ use mathlib.Core.Path.{_∙_}
 use borrow.Author.Needs.{needs}
 use Rattle.laws.specs.Tests.{fails, last, passed, refused}
 use Rattle.rules.specs.Memory.{listingIn}
-use Rattle.rules.proofs.Codecs.{length-queue}
+use Rattle.theory.proofs.Codecs.{length-queue}
 use Rattle.invariants.proofs.MemoryRoom.{counts-ok}
 use Rattle.audit.specs.Parts.{listing}
 use Rattle.audit.proofs.Clauses.{quoted-chain}

@@ -11,7 +11,7 @@ use Rattle.rules.specs.Exchange.{accountAt, noAccount, noOrder}
 use Rattle.rules.specs.Memory.{queueIn}
 use Rattle.rules.specs.declared.Account.{Account}
 use Rattle.rules.specs.declared.Order.{Order}
-use Rattle.rules.proofs.Codecs.{length-queue, order-at}
+use Rattle.theory.proofs.Codecs.{length-queue, order-at}
 use Rattle.audit.specs.Parts.{Markable}
 use Rattle.audit.proofs.MarkedOrders.{MarkMet, Met, all-met, met-again, met-close, met-marked, met-no-maker, met-none, met-unmarked}
 use Rattle.audit.proofs.quotes.queue_quoted.Statement.{statement}

@@ -1,7 +1,7 @@
 -- `book::queue::drop_front` meets its contract: the queue comes back closed up. Assumes nothing.
 use mathlib.Core.Path.{refl, sym, ap, _∙_}
 use Rattle.rules.specs.Memory.{putQueue}
-use Rattle.rules.proofs.Codecs.{put-queue}
+use Rattle.theory.proofs.Codecs.{put-queue}
 use Rattle.book.proofs.Queues.{dropped-orders, removed-front}
 use borrow.Author.Needs.{needs}
 use Rattle.book.proofs.queue.drop_front.Statement.{statement}

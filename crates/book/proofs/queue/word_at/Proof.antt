@@ -1,6 +1,6 @@
 -- `book::queue::word_at` meets its contract: the word that it reads is one of the order's. Assumes nothing.
 use borrow.Author.Needs.{needs}
-use Rattle.rules.proofs.Codecs.{order-word}
+use Rattle.theory.proofs.Codecs.{order-word}
 use Rattle.book.proofs.queue.word_at.Statement.{statement}
 use Rattle.book.proofs.queue.word_at.Tie as tie
 

@@ -5,7 +5,7 @@ use native.Mathlib.Omega.{arith}
 use lib.ListN.{getD}
 use Rattle.rules.specs.Exchange.{noTrade}
 use Rattle.rules.specs.Memory.{recordedTrades}
-use Rattle.rules.proofs.Codecs.{trade-at}
+use Rattle.theory.proofs.Codecs.{trade-at}
 use Rattle.statements.specs.Statement.{tradeBytes}
 use Rattle.sections.proofs.Rows.{Telling, telling-none, telling-room, telling-more, telling-done}
 use Rattle.statements.proofs.Sections.{trades-row}

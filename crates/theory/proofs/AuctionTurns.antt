@@ -2,10 +2,10 @@
 use Rattle.laws.specs.Logic.{Bool, true, false, _&&_, List, [], _∷_, _≡_, refl, ap, _∙_}
 use Rattle.laws.specs.Numbers.{ℕ, zero, suc, _+_, _-_, _<_, _≤_, arith, ltb-true, ltb-false, ltb, length}
 use Rattle.laws.specs.Choice.{pick, pick-true, pick-false, both-true, true-both, by-test}
 use Rattle.rules.specs.Auction.{Matched, afterMatch, lessFirst, matchAt, matchIn, paired, reaches, tradeAt, unmatched}
 use Rattle.rules.specs.Matching.{withLots}
 use Rattle.rules.specs.declared.{Order.Order, Trade.Trade}
-use Rattle.rules.proofs.Sweep.{stays-none, stays-some}
+use Rattle.theory.proofs.Sweep.{stays-none, stays-some}
 
 -- ---- a queue whose first order has traded
 

@@ -9,11 +9,11 @@ use Rattle.areas.specs.Lists.{over, padded}
 use Rattle.areas.specs.Records.{Codec, encode, store}
 use Rattle.areas.proofs.Lists.{getD-over-before, getD-over-in, getD-over-behind, getD-padded, getD-fill}
 use Rattle.areas.proofs.Records.{getD-encode, length-encode}
 use Rattle.rules.specs.Bounds.{maxResting}
 use Rattle.rules.specs.Exchange.{noOrder, noTrade}
 use Rattle.rules.specs.Memory.{firstWord, orderStride, queueStride, tradeStride, orderWords, tradeWords, wordOf, putQueue, putQueues, putTrades}
 use Rattle.rules.specs.declared.{Order.Order, Trade.Trade}
-use Rattle.rules.proofs.Codecs.{order-codec, trade-codec, length-filled, length-putQueues, before-or-after}
+use Rattle.theory.proofs.Codecs.{order-codec, trade-codec, length-filled, length-putQueues, before-or-after}
 
 -- ---- records written over n places, z in those that they leave
 

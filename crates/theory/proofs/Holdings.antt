@@ -5,10 +5,10 @@ use Rattle.laws.specs.Numbers.{ℕ, _+_, _-_, _<_, _≤_, eqb-true, eq-eqb, le-
 use Rattle.laws.specs.Numbers.{getD-set-other, map-set-same}
 use Rattle.laws.specs.Choice.{pick, pick-same, allOf, both-true}
 use Rattle.laws.specs.Lists.{kept-at}
 use Rattle.rules.specs.Exchange.{accountAt, holdingAt, noAccount, noHolding}
 use Rattle.rules.specs.Holdings.{withLong, withShort, afterLeg, withHolding, bookLeg, bookBuyer, bookTrade, bookTrades, legCovered, neverBelowZero, startHolding, startAccount, startOfDay, sameLots, sameHoldings}
 use Rattle.rules.specs.declared.{Account.Account, Holding.Holding, Trade.Trade}
-use Rattle.rules.proofs.Sweep.{ofContract}
+use Rattle.theory.proofs.Sweep.{ofContract}
 
 -- ---- one leg
 

@@ -4,20 +4,20 @@ use Rattle.laws.specs.Logic.{Bool, true, false, not, _&&_, true≢false, false�
 use Rattle.laws.specs.Numbers.{ℕ, _+_, _<_, arith, eqb-true, eqb-false, ne-eqb, eqb, ltb, length, getD, getD-set-same, getD-set-other, map-set-same}
 use Rattle.laws.specs.Choice.{allOf, allOf-true, both-true, either-false, pick}
 use Rattle.laws.specs.Lists.{at-set, kept-at}
 use Rattle.rules.specs.Change.{unchanged}
 use Rattle.rules.specs.Command.{Field, unused, holds, accountField, contractField, isPayment, isSettle}
 use Rattle.rules.specs.Exchange.{Exchange, Listing, absent, accountAt, heldAt, holderAt, holdingAt, listingAt, listingNamed, noAccount, noHolding, noListing, noOrder, own, placeOf}
 use Rattle.rules.specs.Holdings.{bookTrades}
 use Rattle.rules.specs.Kinds.{codeOf, decide, kindOf, lastOf, step}
 use Rattle.rules.specs.Step.{isOf, listingWithout, paid, pulled, removed, withListing, without}
 use Rattle.rules.specs.Touches.{BalanceStays, BlankIsRefused, ContractStays, HeldByTrades, MoneyStays, OrdersUntouched, PullTakesOwn, QueuesAlone, RefusedAndUnchanged, RefusedChangesNothing, holdingsOf, isBlank, names, ordersOf, ordersWhere}
 use Rattle.rules.specs.declared.{Account.Account, Command.Command, Order.Order, Trade.Trade}
 use Rattle.rules.specs.declared.Command.the-variants.{Pull}
-use Rattle.rules.proofs.EachKind.{Pays, Works, accepted-named, kind-pays, kind-works}
-use Rattle.rules.proofs.InContract.{InContract}
-use Rattle.rules.proofs.Holdings.{booked-balance, other-holding}
-use Rattle.rules.proofs.Refusals.{present}
-use Rattle.rules.proofs.Stages.{decided}
+use Rattle.theory.proofs.EachKind.{Pays, Works, accepted-named, kind-pays, kind-works}
+use Rattle.theory.proofs.InContract.{InContract}
+use Rattle.theory.proofs.Holdings.{booked-balance, other-holding}
+use Rattle.theory.proofs.Refusals.{present}
+use Rattle.theory.proofs.Stages.{decided}
 
 -- ---- 1. refused
 

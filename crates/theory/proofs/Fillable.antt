@@ -3,14 +3,14 @@
 use Rattle.laws.specs.Logic.{Bool, true, false, not, true≢false, List, [], _∷_, ⊎-elim, _≡_, refl, _∙_}
 use Rattle.laws.specs.Numbers.{ℕ, _+_, _≤_, min, arith, eqb-false, leb-false, ne-eqb, lt-leb}
 use Rattle.laws.specs.Sums.{sumOf}
 use Rattle.rules.specs.Exchange.{bestPrice}
 use Rattle.rules.specs.Matching.{meets, counterpart, fillable, tradeWith, sweep, tradedLots}
 use Rattle.rules.specs.WellFormed.{sorted}
 use Rattle.rules.specs.declared.{Order.Order, PriceCondition.PriceCondition, Taker.Taker, Trade.Trade}
 use Rattle.rules.specs.declared.PriceCondition.the-variants.{Limit, Market, Best}
-use Rattle.rules.proofs.Queue.{lots-nil, lots-met, lots-unmet}
-use Rattle.rules.proofs.Sorted.{Behind, AllBehind, behind-antisym, sorted-tail, sorted-behind, best-first}
-use Rattle.rules.proofs.Sweep.{Unmet, trade-lots, sweep-ind}
+use Rattle.theory.proofs.Queue.{lots-nil, lots-met, lots-unmet}
+use Rattle.theory.proofs.Sorted.{Behind, AllBehind, behind-antisym, sorted-tail, sorted-behind, best-first}
+use Rattle.theory.proofs.Sweep.{Unmet, trade-lots, sweep-ind}
 
 -- ---- the lots that a sweep trades
 

@@ -2,22 +2,22 @@
 use Rattle.laws.specs.Logic.{true, false, List, [], _++_, append-nil, append-assoc, _≡_, refl, sym, _∙_}
 use Rattle.laws.specs.Numbers.{ℕ, _+_, eqb-false, eqb, getD, set, getD-set-other}
 use Rattle.laws.specs.Choice.{allOf, allOf-append, true-both}
 use Rattle.rules.specs.Answers.{listingOf, takerOf}
 use Rattle.rules.specs.Auction.{matchOf}
 use Rattle.rules.specs.Change.{Asked, arriving, changeTrades, changed, gone, placeKept, placeLost, reentered, unchanged}
 use Rattle.rules.specs.Exchange.{Exchange, Listing, listingAt, noListing, opposite, placeOf}
 use Rattle.rules.specs.Holdings.{bookTrades}
 use Rattle.rules.specs.Kinds.{lastOf}
 use Rattle.rules.specs.Matching.{enter, restWhole}
 use Rattle.rules.specs.Quote.{Offered, buyOf, half, quoteTrades, quoted, sellOf, withBuy, withSell, withoutQuote}
 use Rattle.rules.specs.Step.{cancelled, enteredOf, exchangeAfter, exchangeMatched, removed, withListing}
 use Rattle.rules.specs.declared.{NewOrder.NewOrder, Trade.Trade}
-use Rattle.rules.proofs.AuctionOutcome.{auction-either}
-use Rattle.rules.proofs.AuctionSteps.{entered-either, match-either}
-use Rattle.rules.proofs.AuctionTrades.{match-contract}
-use Rattle.rules.proofs.Changes.{changed-either}
-use Rattle.rules.proofs.Holdings.{bookTrades-append}
-use Rattle.rules.proofs.Sweep.{ofContract, swept-contract}
+use Rattle.theory.proofs.AuctionOutcome.{auction-either}
+use Rattle.theory.proofs.AuctionSteps.{entered-either, match-either}
+use Rattle.theory.proofs.AuctionTrades.{match-contract}
+use Rattle.theory.proofs.Changes.{changed-either}
+use Rattle.theory.proofs.Holdings.{bookTrades-append}
+use Rattle.theory.proofs.Sweep.{ofContract, swept-contract}
 
 -- no other listing changes, and what happens to the accounts is that these trades, of this contract, are booked
 pub record InContract (d : ℕ) (ts : List Trade) (x y : Exchange) : Type 0 where

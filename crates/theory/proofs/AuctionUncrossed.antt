@@ -4,12 +4,12 @@
 use Rattle.laws.specs.Logic.{Bool, true, false, List, [], _∷_, _≡_, refl}
 use Rattle.laws.specs.Numbers.{ℕ, _<_, _≤_, arith, leb-true, ltb-true, ltb-false, lt-ltb, leb, ltb}
 use Rattle.laws.specs.Choice.{allOf, allOf-append, both-true, true-both, by-test}
 use Rattle.rules.specs.Auction.{lotsReaching, matchAt, prices, restingPrices, volume}
 use Rattle.rules.specs.WellFormed.{sorted, uncrossed}
 use Rattle.rules.specs.declared.Order.{Order}
-use Rattle.rules.proofs.AuctionTaken.{behind-reaches, reaching-met, Taken}
-use Rattle.rules.proofs.AuctionTraded.{match-volume, match-taken}
-use Rattle.rules.proofs.Sorted.{Behind, behind-refl}
+use Rattle.theory.proofs.AuctionTaken.{behind-reaches, reaching-met, Taken}
+use Rattle.theory.proofs.AuctionTraded.{match-volume, match-taken}
+use Rattle.theory.proofs.Sorted.{Behind, behind-refl}
 
 abbrev pub hasLots : Order → Bool
 hasLots o = ltb 0 (o .lots)

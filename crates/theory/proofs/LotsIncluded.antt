@@ -6,12 +6,12 @@ use Rattle.laws.specs.Logic.{Bool, true, false, not, _≡_, refl, sym, ap, ap�
 use Rattle.laws.specs.Numbers.{ℕ, zero, suc, _+_, _*_, _<_, _≤_, max, mul-le-mul-left, arith, eqb-true, eqb-false, eqb, length}
 use Rattle.laws.specs.Choice.{pick}
 use Rattle.laws.specs.Ring.{leZ-ltZ}
 use Rattle.rules.specs.Answers.{moneyRefused}
 use Rattle.rules.specs.Exchange.{Exchange, Listing, listingAt, accountAt, holdingAt, placeOf}
 use Rattle.rules.specs.Holdings.{afterLeg}
 use Rattle.rules.specs.Margin.{charge, charged, chargedLots, chargedLotsWith, chargedTo, chargedWith, includedTo, withOpen}
 use Rattle.rules.specs.declared.{Holding.Holding, NewOrder.NewOrder}
-use Rattle.rules.proofs.Holdings.{holding-same, holding-other-contract}
+use Rattle.theory.proofs.Holdings.{holding-same, holding-other-contract}
 
 -- ---- one contract
 

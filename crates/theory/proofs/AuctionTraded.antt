@@ -3,13 +3,13 @@
 use Rattle.laws.specs.Logic.{true, false, true≢false, List, [], _∷_, _≡_, refl, sym, _∙_}
 use Rattle.laws.specs.Numbers.{ℕ, _+_, _≤_, arith, ltb-true, ltb-false, ltb}
 use Rattle.laws.specs.Choice.{true-both, by-test}
 use Rattle.rules.specs.Auction.{lotsReaching, matchAt, paired, reaches, tradeAt, volume}
 use Rattle.rules.specs.Matching.{tradedLots}
 use Rattle.rules.specs.WellFormed.{sorted}
 use Rattle.rules.specs.declared.{Order.Order, Trade.Trade}
-use Rattle.rules.proofs.AuctionTaken.{reaching-nil, first-reaches, reaching-less, less-sorted, Taken, taken-none, taken-first, taken-more}
-use Rattle.rules.proofs.AuctionTurns.{Apart, match-ind}
-use Rattle.rules.proofs.Fillable.{traded-nil, traded-cons}
+use Rattle.theory.proofs.AuctionTaken.{reaching-nil, first-reaches, reaching-less, less-sorted, Taken, taken-none, taken-first, taken-more}
+use Rattle.theory.proofs.AuctionTurns.{Apart, match-ind}
+use Rattle.theory.proofs.Fillable.{traded-nil, traded-cons}
 
 pub at-lots : (contract price lots : ℕ) (b s : Order) → tradeAt contract price lots b s .lots ≡ lots
 unfolding tradeAt

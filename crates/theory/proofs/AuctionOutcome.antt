@@ -4,18 +4,18 @@
 use Rattle.laws.specs.Logic.{Bool, true, false, _&&_, List, [], _∷_, _⊎_, inl, inr, _≡_, refl, sym, _∙_}
 use Rattle.laws.specs.Numbers.{ℕ, _+_, _<_, _≤_, arith, eqb-true, ltb-true, ltb-false, eq-eqb, lt-ltb, eqb, ltb, length}
 use Rattle.laws.specs.Choice.{pick, pick-either, pick-true, allOf, allOf-append, allOf-imp, both-true, true-both, by-test}
 use Rattle.rules.specs.Auction.{Matched, auctionMatch, auctionPrice, chosenPrice, lotsReaching, matchAt, prices, restingPrices, unmatched, volume}
 use Rattle.rules.specs.AuctionFairness.{oneOf}
 use Rattle.rules.specs.Matching.{lastPrice, tradedLots}
 use Rattle.rules.specs.WellFormed.{sorted, uncrossed}
 use Rattle.rules.specs.declared.{Order.Order, Trade.Trade}
-use Rattle.rules.proofs.AuctionPrice.{chosen-largest, chosen-rests, one-passes}
-use Rattle.rules.proofs.AuctionTaken.{Taken, reaching-nil, taken-none}
-use Rattle.rules.proofs.AuctionTraded.{match-filled, match-taken, match-volume, volume-at-most}
-use Rattle.rules.proofs.AuctionTrades.{match-prices}
-use Rattle.rules.proofs.AuctionTurns.{match-count}
-use Rattle.rules.proofs.AuctionUncrossed.{hasLots, match-uncrosses, uncrossed-after}
-use Rattle.rules.proofs.Fillable.{traded-nil}
+use Rattle.theory.proofs.AuctionPrice.{chosen-largest, chosen-rests, one-passes}
+use Rattle.theory.proofs.AuctionTaken.{Taken, reaching-nil, taken-none}
+use Rattle.theory.proofs.AuctionTraded.{match-filled, match-taken, match-volume, volume-at-most}
+use Rattle.theory.proofs.AuctionTrades.{match-prices}
+use Rattle.theory.proofs.AuctionTurns.{match-count}
+use Rattle.theory.proofs.AuctionUncrossed.{hasLots, match-uncrosses, uncrossed-after}
+use Rattle.theory.proofs.Fillable.{traded-nil}
 
 module _ (contract last : ℕ) (buys sells : List Order) where
   abbrev price : ℕ

@@ -2,10 +2,10 @@
 use Rattle.laws.specs.Logic.{Bool, true, false, List, [], _∷_, _≡_, refl}
 use Rattle.laws.specs.Numbers.{ℕ, _<_, _≤_, arith, eq-eqb, eqb}
 use Rattle.laws.specs.Choice.{allOf, both-true, true-both}
 use Rattle.rules.specs.Auction.{matchAt, paired, reaches, tradeAt}
 use Rattle.rules.specs.declared.{Order.Order, Trade.Trade}
-use Rattle.rules.proofs.AuctionTaken.{KeptWithFewer, less-kept}
-use Rattle.rules.proofs.AuctionTurns.{match-ind}
+use Rattle.theory.proofs.AuctionTaken.{KeptWithFewer, less-kept}
+use Rattle.theory.proofs.AuctionTurns.{match-ind}
 
 -- the tests that the orders of the two queues pass, with fewer lots too, and the one that their trades then pass
 module _ (contract price : ℕ) (test : Trade → Bool) (buy sell : Order → Bool) (fewer : KeptWithFewer buy × KeptWithFewer sell)

@@ -3,16 +3,16 @@
 use Rattle.laws.specs.Logic.{Bool, true, false, _&&_, List, [], _∷_, append-nil, _≡_, refl, ap}
 use Rattle.laws.specs.Numbers.{ℕ, _-_, min, ltb, length}
 use Rattle.laws.specs.Choice.{pick, pick-either, pick-false}
 use Rattle.rules.specs.Answers.{isGoodForDay, listingOf, takerOf, tradesNeeded, tradesAgainst}
 use Rattle.rules.specs.Auction.{Matched, matchOf, unmatched}
 use Rattle.rules.specs.Bounds.{inAuction}
 use Rattle.rules.specs.Exchange.{Exchange, listingAt, opposite, own}
 use Rattle.rules.specs.FairCommands.{auctionOf}
 use Rattle.rules.specs.Holdings.{bookTrades}
 use Rattle.rules.specs.Matching.{Entered, Swept, afterTrade, counterpart, enter, lastPrice, restWhole, stays, sweep, tradePrice, tradeWith, untouched}
 use Rattle.rules.specs.Step.{accepted, enteredOf, exchangeMatched, limitOf, listingMatched, phaseChanged, withContract, withListing, withPhase}
 use Rattle.rules.specs.declared.{NewOrder.NewOrder, Order.Order, Trade.Trade}
-use Rattle.rules.proofs.Fillable.{traded-nil}
+use Rattle.theory.proofs.Fillable.{traded-nil}
 
 -- ---- an insert
 

@@ -8,20 +8,20 @@ use types.Run.{OneOf, miss}
 use Rattle.laws.specs.Logic.{Bool, true, false, not, true≢false, false≢true, List, [], _∷_, _++_, _≡_, refl, sym, ap, subst, _∙_}
 use Rattle.laws.specs.Numbers.{ℕ, _+_, arith, ne-eqb, eqb}
 use Rattle.laws.specs.Choice.{ap-pick, pick, pick-same}
 use Rattle.rules.specs.Answers.{Refusal, absentRefusals, cancelRefusals, depositRefusals, firstOf, insertRefusals, phaseRefusals, pullRefusals, withdrawRefusals}
 use Rattle.rules.specs.Change.{asked, changeRefusals}
 use Rattle.rules.specs.Command.{Field, unused, holds, accountField, cancelOf, changeOf, commandOf, contractField, depositOf, insertOf, isPayment, isSettle, kindNumber, newOrder, phaseOf, pullOf, quoteOf, settleOf, withdrawOf}
 use Rattle.rules.specs.Exchange.{Exchange, absent, placeOf}
 use Rattle.rules.specs.Kinds.{codeOf, kindOf, lastOf}
 use Rattle.rules.specs.Quote.{offered, quoteRefusals}
 use Rattle.rules.specs.Step.{cancelled, deposited, inserted, paid, phaseChanged, pulled, removed, withdrawn}
 use Rattle.rules.specs.Touches.{isBlank}
 use Rattle.rules.specs.declared.{Command.Command, NewOrder.NewOrder, Trade.Trade}
 use Rattle.rules.specs.declared.Command.the-variants.{Malformed, Deposit, Withdraw, Insert, Cancel, Pull, Phase, Settle, Quote, Change}
 use Rattle.rules.specs.declared.Record.{Record}
 use Rattle.rules.proofs.Command.{the-type}
-use Rattle.rules.proofs.InContract.{InContract, changed-in, entered-in, matched-in, quoted-in, relisted-in}
-use Rattle.rules.proofs.Refusals.{both-zero, failed}
+use Rattle.theory.proofs.InContract.{InContract, changed-in, entered-in, matched-in, quoted-in, relisted-in}
+use Rattle.theory.proofs.Refusals.{both-zero, failed}
 
 tag-is : (d : Command) → tagOf the-type d ≡ kindNumber d
 tag-is Malformed = refl

@@ -4,14 +4,14 @@ use Rattle.laws.specs.Logic.{Bool, true, false, List, [], _∷_, _++_, append-a
 use Rattle.laws.specs.Numbers.{ℕ, _+_, _-_, _<_, _≤_, arith, leb-false, ltb-true, ltb-false, le-leb, lt-leb, ltb, length}
 use Rattle.laws.specs.Choice.{allOf, both-true, true-both, by-test}
 use Rattle.laws.specs.Sums.{sumOf, sumOf-cons}
 use Rattle.rules.specs.Matching.{withLots}
 use Rattle.rules.specs.WellFormed.{sorted, numbers, listed}
 use Rattle.rules.specs.declared.Order.{Order}
-use Rattle.rules.proofs.Queue.{lots-nil, lots-met, lots-unmet}
-use Rattle.rules.proofs.Rest.{sorted-lots}
-use Rattle.rules.proofs.Sorted.{Behind, AllBehind, behind-trans, sorted-tail, sorted-behind}
+use Rattle.theory.proofs.Queue.{lots-nil, lots-met, lots-unmet}
+use Rattle.theory.proofs.Rest.{sorted-lots}
+use Rattle.theory.proofs.Sorted.{Behind, AllBehind, behind-trans, sorted-tail, sorted-behind}
 use Rattle.rules.specs.Auction.{reaches, lotsReaching, lessFirst}
-use Rattle.rules.proofs.AuctionTurns.{less-filled, less-part, length-less}
+use Rattle.theory.proofs.AuctionTurns.{less-filled, less-part, length-less}
 
 -- ---- the lots that reach a price
 

@@ -5,15 +5,15 @@ use Rattle.laws.specs.Logic.{Bool, true, false, not, List, [], _∷_, map, _⊎
 use Rattle.laws.specs.Numbers.{ℕ, _+_, _*_, _/_, _%_, _<_, _≤_, min, max, mul-le-mul-right, mul-mod-left, div-add-mod', div-mul-le-self, le-div-iff-mul-le}
 use Rattle.laws.specs.Numbers.{arith, eqb-true, leb-true, leb-false, eq-eqb, le-leb, eqb, leb, length, take}
 use Rattle.laws.specs.Choice.{allOf, allOf-true, both-true, pick, true-both, by-test}
 use Rattle.rules.specs.Bounds.{onTick, allowedToday, dayLow, dayHigh, within}
 use Rattle.rules.specs.Exchange.{bestPrice, noOrder}
 use Rattle.rules.specs.Matching.{meets, counterpart, average, methodOf, middle, pairedPrice, tradePrice, tradeWith, sweep, lastPrice}
 use Rattle.rules.specs.WellFormed.{sorted}
 use Rattle.rules.specs.declared.{Contract.Contract, Order.Order, PairingMethod.PairingMethod, PriceCondition.PriceCondition, Taker.Taker, Trade.Trade}
 use Rattle.rules.specs.declared.PairingMethod.the-variants.{Middle, Average, FirstIn}
 use Rattle.rules.specs.declared.PriceCondition.the-variants.{Limit, Market, Best}
-use Rattle.rules.proofs.Sorted.{Behind, AllBehind, behind-trans, sorted-tail, sorted-behind, best-first}
-use Rattle.rules.proofs.Sweep.{trade-price, sweep-ind, swept-each}
+use Rattle.theory.proofs.Sorted.{Behind, AllBehind, behind-trans, sorted-tail, sorted-behind, best-first}
+use Rattle.theory.proofs.Sweep.{trade-price, sweep-ind, swept-each}
 
 -- ---- the middle of three prices
 

@@ -4,14 +4,14 @@ use Rattle.laws.specs.Logic.{Bool, true, false, not, List, [], _∷_, _⊎_, �
 use Rattle.laws.specs.Numbers.{ℕ, zero, suc, _-_, _<_, _≤_, arith, leb-false, ltb-true, lt-ltb, length}
 use Rattle.laws.specs.Choice.{pick, allOf, both-true, true-both}
 use Rattle.laws.specs.Sums.{sumOf, sumOf-cons}
 use Rattle.rules.specs.Exchange.{worse}
 use Rattle.rules.specs.Matching.{meets, tradeWith, withLots, sweep, tradedLots, restIn, remainder, restLots, restedLots, enter}
 use Rattle.rules.specs.WellFormed.{ahead, aheadOfFirst, sorted, uncrossed}
 use Rattle.rules.specs.declared.{Order.Order, Taker.Taker}
 use Rattle.rules.specs.declared.PriceCondition.the-variants.{Limit}
-use Rattle.rules.proofs.Fillable.{traded-nil, traded-cons}
-use Rattle.rules.proofs.Sorted.{Behind, AllBehind, behind-refl, sorted-tail, sorted-behind}
-use Rattle.rules.proofs.Sweep.{Unmet, trade-lots, sweep-end, sweep-ind}
+use Rattle.theory.proofs.Fillable.{traded-nil, traded-cons}
+use Rattle.theory.proofs.Sorted.{Behind, AllBehind, behind-refl, sorted-tail, sorted-behind}
+use Rattle.theory.proofs.Sweep.{Unmet, trade-lots, sweep-end, sweep-ind}
 
 -- ---- why it stopped
 

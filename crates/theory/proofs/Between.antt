@@ -3,13 +3,13 @@
 use Rattle.laws.specs.Logic.{Bool, true, false, not, List, [], _∷_, _≡_, refl}
 use Rattle.laws.specs.Numbers.{ℕ, zero, suc, _<_, _≤_, arith, length}
 use Rattle.laws.specs.Choice.{allOf, both-true, pick}
 use Rattle.rules.specs.Bounds.{onTick}
 use Rattle.rules.specs.Fairness.{AllBetween, BetweenSellAndBuy, TradedInTurn, accountOn, orderAt, orderOn, tradeOf}
 use Rattle.rules.specs.Matching.{counterpart, meets, sweep, tradeWith}
 use Rattle.rules.specs.declared.{Order.Order, Taker.Taker, Trade.Trade}
 use Rattle.rules.specs.declared.PriceCondition.the-variants.{Limit}
-use Rattle.rules.proofs.Prices.{RoundsTo, price-between}
-use Rattle.rules.proofs.Sweep.{sweep-ind, trade-price}
+use Rattle.theory.proofs.Prices.{RoundsTo, price-between}
+use Rattle.theory.proofs.Sweep.{sweep-ind, trade-price}
 
 -- ---- trade i with order i
 

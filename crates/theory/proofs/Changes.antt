@@ -4,15 +4,15 @@ use lib.Seq.{set-set}
 use Rattle.laws.specs.Logic.{Bool, true, false, true≢false, List, [], _≡_, refl, sym, ap, _∙_}
 use Rattle.laws.specs.Numbers.{ℕ, _+_, _<_, _≤_, arith, eqb-true, eq-eqb, ne-eqb, le-ltb, eqb}
 use Rattle.laws.specs.Choice.{pick, by-test}
 use Rattle.rules.specs.Answers.{listingOf}
 use Rattle.rules.specs.Change.{Asked, arriving, asked, changeTrades, changed, gone, isSell, listingLessened, losesPlace, oldOrder, placeKept, placeLost, reentered, unchanged}
 use Rattle.rules.specs.Exchange.{Exchange, Listing, listingNamed, placeOf}
 use Rattle.rules.specs.Kinds.{codeOf, kindOf, lastOf, step}
 use Rattle.rules.specs.Matching.{Entered}
 use Rattle.rules.specs.Step.{Effect, cancelled, exchangeAfter, hasNumber, listingAfter, listingWithout, withListing, withTrades}
 use Rattle.rules.specs.declared.Command.the-variants.{Change}
 use Rattle.rules.specs.declared.Trade.{Trade}
-use Rattle.rules.proofs.Stages.{decided}
+use Rattle.theory.proofs.Stages.{decided}
 
 module _ (x : Exchange) (k : Asked) where
   zero-keeps-none : eqb (k .lots) 0 ≡ true → losesPlace x k ≡ false
