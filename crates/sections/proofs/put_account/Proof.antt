@@ -23,38 +23,21 @@ Begun head = head .before .before
 abbrev Turn : tie.After-out Inv-loop μ-loop → tie.In-loop Inv-loop μ-loop
 Turn c = c .before .before .before .before
 
-loop-holds : tie.Need-loop-holds Inv-loop μ-loop
-loop-holds c = telling-none _ _ _ _ (omega (arith, c .before .pre .1))
-
-mul-h : tie.Need-mul-h Inv-loop μ-loop
-mul-h c = omega (arith, Begun (c .before) .pre .0)
-
-element-copy-out-h : tie.Need-element-copy-out-h Inv-loop μ-loop
-element-copy-out-h c = omega (arith, Begun (c .before) .pre .0)
-
 put-holding-requires : tie.Need-put-holding-requires Inv-loop μ-loop
 put-holding-requires c κs =
     let head = c .before .before .before in
     telling-fits _ _ _ _ _ _ _ (c .before .before .loop-test .taken) (head .loop .inv) (length-holding _) (Begun head .pre .1)
 
-add-c : tie.Need-add-c Inv-loop μ-loop
-add-c c = omega (arith, Begun (Turn (c .before) .before) .pre .0)
-
-same-length : tie.Need-same-length Inv-loop μ-loop
-same-length c = c .before .loop .inv .row .kept
-
 pub put-account-spec : {M : Type 1} → statement M
-put-account-spec =
-    tie.close
-    (tie.spec
+put-account-spec = tie.close (tie.spec
     Inv-loop
     μ-loop
-    loop-holds
-    mul-h
-    element-copy-out-h
+    (λ c. telling-none _ _ _ _ (omega (arith, c .before .pre .1)))  -- loop-holds
+    (λ c. omega (arith, Begun (c .before) .pre .0))  -- mul-h
+    (λ c. omega (arith, Begun (c .before) .pre .0))  -- element-copy-out-h
     put-holding-requires
-    add-c
+    (λ c. omega (arith, Begun (Turn (c .before) .before) .pre .0))  -- add-c
     (λ c. omega arith)  -- loop-less
     (λ c. search telling-more)  -- loop-again
-    same-length
+    (λ c. c .before .loop .inv .row .kept)  -- same-length
     (λ c. search telling-done))  -- returns

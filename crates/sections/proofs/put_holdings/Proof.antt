@@ -22,43 +22,26 @@ Begun head = head .before .before
 abbrev Turn : tie.After-out Inv-loop μ-loop → tie.In-loop Inv-loop μ-loop
 Turn c = c .before .before .before .before
 
-loop-holds : tie.Need-loop-holds Inv-loop μ-loop
-loop-holds c = telling-none _ _ _ _ (omega (arith, c .before .pre .2))
-
-mul-a : tie.Need-mul-a Inv-loop μ-loop
-mul-a c = omega (arith, Begun (c .before) .pre .0)
-
-array-copy-out-a : tie.Need-array-copy-out-a Inv-loop μ-loop
-array-copy-out-a c = omega (arith, Begun (c .before) .pre .0)
-
 put-account-requires : tie.Need-put-account-requires Inv-loop μ-loop
 unfolding holdingsBytes holdingAt accountAt
 put-account-requires c κs =
     let head = c .before .before .before in
     (Begun head .pre .1, telling-room _ _ _ _ _ _ _ (c .before .before .loop-test .taken) (head .loop .inv) (Begun head .pre .2))
 
-add-i : tie.Need-add-i Inv-loop μ-loop
-add-i c = omega (arith, Begun (Turn (c .before) .before) .pre .0)
-
-same-length : tie.Need-same-length Inv-loop μ-loop
-same-length c = c .before .loop .inv .row .kept
-
 returns : tie.Need-returns Inv-loop μ-loop
 unfolding holdingsBytes holdingAt accountAt
 returns c = telling-done _ _ _ _ _ _ _ (c .loop-test .left) (c .before .loop .inv)
 
 pub put-holdings-spec : {M : Type 1} → statement M
-put-holdings-spec =
-    tie.close
-    (tie.spec
+put-holdings-spec = tie.close (tie.spec
     Inv-loop
     μ-loop
-    loop-holds
-    mul-a
-    array-copy-out-a
+    (λ c. telling-none _ _ _ _ (omega (arith, c .before .pre .2)))  -- loop-holds
+    (λ c. omega (arith, Begun (c .before) .pre .0))  -- mul-a
+    (λ c. omega (arith, Begun (c .before) .pre .0))  -- array-copy-out-a
     put-account-requires
-    add-i
+    (λ c. omega (arith, Begun (Turn (c .before) .before) .pre .0))  -- add-i
     (λ c. omega arith)  -- loop-less
     (λ c. search telling-more)  -- loop-again
-    same-length
+    (λ c. c .before .loop .inv .row .kept)  -- same-length
     returns)

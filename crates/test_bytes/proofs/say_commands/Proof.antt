@@ -10,69 +10,32 @@ Inv-loop file n first k₀ k = k ≤ n
 abbrev μ-loop : tie.MeasureT-loop
 μ-loop file n first k₀ k = n - k
 
-commands-in-requires : tie.Need-commands-in-requires Inv-loop μ-loop
-commands-in-requires c κs = search needs
-
-first-command-requires : tie.Need-first-command-requires Inv-loop μ-loop
-first-command-requires c κs = search needs
-
-slice-aggregate-write-all : tie.Need-slice-aggregate-write-all Inv-loop μ-loop
-slice-aggregate-write-all c = search needs
-
-write-all-requires : tie.Need-write-all-requires Inv-loop μ-loop
-write-all-requires c κs = search needs
-
-print-decimal-requires : tie.Need-print-decimal-requires Inv-loop μ-loop
-print-decimal-requires c κs = search needs
-
-say-requires : tie.Need-say-requires Inv-loop μ-loop
-say-requires c κs = search needs
-
-loop-holds : tie.Need-loop-holds Inv-loop μ-loop
-loop-holds c = search needs
+-- back to the call whose answer is `first`
+abbrev First : tie.At-loop Inv-loop μ-loop → tie.After-first-command Inv-loop μ-loop
+First c = c .before .before .before .before .before
 
 record-of-requires : tie.Need-record-of-requires Inv-loop μ-loop
 record-of-requires c κs =
-    let f = c .before .before .before .before .before .before in
+    let f = First (c .before) in
     let n = f .before .commands-in in
     let k = c .before .loop .k in
     (f .before .before .before .pre, f .first-command .ensures, rw (n .ensures) at (c .loop-test .taken))
 
-command-of-requires : tie.Need-command-of-requires Inv-loop μ-loop
-command-of-requires c κs = search needs
-
-say-kind-requires : tie.Need-say-kind-requires Inv-loop μ-loop
-say-kind-requires c κs = search needs
-
-add-k : tie.Need-add-k Inv-loop μ-loop
-add-k c = search needs
-
-loop-less : tie.Need-loop-less Inv-loop μ-loop
-loop-less c = search needs
-
-loop-again : tie.Need-loop-again Inv-loop μ-loop
-loop-again c = search needs
-
-returns : tie.Need-returns Inv-loop μ-loop
-returns c = search needs
-
 pub say-commands-spec : {M : Type 1} → statement M
-say-commands-spec =
-    tie.close
-    (tie.spec
+say-commands-spec = tie.close (tie.spec
     Inv-loop
     μ-loop
-    commands-in-requires
-    first-command-requires
-    slice-aggregate-write-all
-    write-all-requires
-    print-decimal-requires
-    say-requires
-    loop-holds
+    (λ c κs. search needs)  -- commands-in-requires
+    (λ c κs. search needs)  -- first-command-requires
+    (λ c. search needs)  -- slice-aggregate-write-all
+    (λ c κs. search needs)  -- write-all-requires
+    (λ c κs. search needs)  -- print-decimal-requires
+    (λ c κs. search needs)  -- say-requires
+    (λ c. search needs)  -- loop-holds
     record-of-requires
-    command-of-requires
-    say-kind-requires
-    add-k
-    loop-less
-    loop-again
-    returns)
+    (λ c κs. search needs)  -- command-of-requires
+    (λ c κs. search needs)  -- say-kind-requires
+    (λ c. search needs)  -- add-k
+    (λ c. search needs)  -- loop-less
+    (λ c. search needs)  -- loop-again
+    (λ c. search needs))  -- returns

@@ -20,7 +20,9 @@ middle-requires : tie.Need-middle-requires
 middle-requires c κs = search needs
 
 returns-3 : tie.Need-returns-3
-returns-3 c = both-quoted _ _ _ _ _ _ _ _ _ (c .before .before .before .before .if1 .left) (c .before .before .before .if2 .left) (c .before .before .order-at .ensures) (c .before .order-at2 .ensures) (c .middle .ensures)
+returns-3 c =
+    both-quoted _ _ _ _ _ _ _ _ _ (c .before .before .before .before .if1 .left) (c .before .before .before .if2 .left) (c .before .before .order-at .ensures)
+    (c .before .order-at2 .ensures) (c .middle .ensures)
 
 pub quoted-spec : {M : Type 1} → statement M
 quoted-spec =

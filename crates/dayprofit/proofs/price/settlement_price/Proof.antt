@@ -5,6 +5,10 @@ use Rattle.dayprofit.proofs.Quoting.{price-in, price-quoted, price-weig
 use Rattle.dayprofit.proofs.price.settlement_price.Statement.{statement}
 use Rattle.dayprofit.proofs.price.settlement_price.Tie as tie
 
+-- back to the start
+abbrev Begun : tie.After-traded → tie.Start
+Begun c = c .before .before .before .before
+
 cast-traded : tie.Need-cast-traded
 cast-traded c = omega arith
 
@@ -12,13 +16,15 @@ traded-requires : tie.Need-traded-requires
 traded-requires c κs = c .before .before .before .pre .trades
 
 quoted-requires : tie.Need-quoted-requires
-quoted-requires c κs = c .before .before .before .before .before .pre .quotes
+quoted-requires c κs = Begun (c .before) .pre .quotes
 
 returns : tie.Need-returns
-returns c = price-in _ _ _ _ _ _ _ _ _ (price-quoted _ _ _ _ _ _ _ (contract-sized _ _ _ (c .before .before .before .before .before .before .pre .trades)) (c .before .before .traded .ensures) (c .before .if1 .taken) (c .quoted .ensures))
+returns c =
+    price-in _ _ _ _ _ _ _ _ _ (price-quoted _ _ _ _ _ _ _ (contract-sized _ _ _ (Begun (c .before .before) .pre .trades))
+    (c .before .before .traded .ensures) (c .before .if1 .taken) (c .quoted .ensures))
 
 weighted-requires : tie.Need-weighted-requires
-weighted-requires c κs = (omega arith, omega arith, turnover-low _ _ (contract-sized _ _ _ (c .before .before .before .before .before .pre .trades)) (c .before .traded .ensures))
+weighted-requires c κs = (omega arith, omega arith, turnover-low _ _ (contract-sized _ _ _ (Begun (c .before) .pre .trades)) (c .before .traded .ensures))
 
 returns-2 : tie.Need-returns-2
 returns-2 c = price-in _ _ _ _ _ _ _ _ _ (price-weighted _ _ _ _ _ _ _ (c .before .before .traded .ensures) (c .before .if1 .left) (c .weighted .ensures))

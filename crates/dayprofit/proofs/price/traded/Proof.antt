@@ -11,45 +11,35 @@ Inv-loop area count contract value₀ lots₀ i₀ value lots i = Trading area c
 abbrev μ-loop : tie.MeasureT-loop
 μ-loop area count contract value₀ lots₀ i₀ value lots i = count - i
 
-loop-holds : tie.Need-loop-holds Inv-loop μ-loop
-loop-holds c = trading-none _ _ _
-
-trade-at-requires : tie.Need-trade-at-requires Inv-loop μ-loop
-trade-at-requires c κs = omega arith
-
-part-requires : tie.Need-part-requires Inv-loop μ-loop
-part-requires c κs = sized-at _ _ (c .before .before .before .before .pre) _ _ (c .before .loop-test .taken) (c .trade-at .ensures)
+-- back to the loop's head
+abbrev Head : tie.After-struct-known Inv-loop μ-loop → tie.At-loop Inv-loop μ-loop
+Head c = c .before .before .before .before
 
 add-value : tie.Need-add-value Inv-loop μ-loop
-add-value c = value-fits _ _ _ (c .before .before .before .before .before .before .pre) _ _ _ _ _ (c .before .before .before .loop-test .taken) (c .before .before .before .before .loop .inv) (c .before .before .trade-at .ensures) (c .before .part .ensures)
+add-value c =
+    value-fits _ _ _ (Head c .before .before .pre) _ _ _ _ _ (c .before .before .before .loop-test .taken) (c .before .before .before .before .loop .inv)
+    (c .before .before .trade-at .ensures) (c .before .part .ensures)
 
 add-lots : tie.Need-add-lots Inv-loop μ-loop
-add-lots c = lots-fits _ _ _ (c .before .before .before .before .before .before .before .pre) _ _ _ _ _ (c .before .before .before .before .loop-test .taken) (c .before .before .before .before .before .loop .inv) (c .before .before .before .trade-at .ensures) (c .before .before .part .ensures)
-
-add-i : tie.Need-add-i Inv-loop μ-loop
-add-i c = omega arith
-
-loop-less : tie.Need-loop-less Inv-loop μ-loop
-loop-less c = omega arith
+add-lots c =
+    lots-fits _ _ _ (Head (c .before) .before .before .pre) _ _ _ _ _ (c .before .before .before .before .loop-test .taken) (Head (c .before) .loop .inv)
+    (c .before .before .before .trade-at .ensures) (c .before .before .part .ensures)
 
 loop-again : tie.Need-loop-again Inv-loop μ-loop
-loop-again c = trading-more _ _ _ (c .before .before .before .before .before .before .before .pre) _ _ _ _ _ (c .before .before .before .before .loop-test .taken) (c .before .before .before .before .before .loop .inv) (c .before .before .before .trade-at .ensures) (c .before .before .part .ensures)
-
-returns : tie.Need-returns Inv-loop μ-loop
-returns c = trading-done _ _ _ (c .before .before .before .pre) _ _ _ (c .loop-test .left) (c .before .loop .inv)
+loop-again c =
+    trading-more _ _ _ (Head (c .before) .before .before .pre) _ _ _ _ _ (c .before .before .before .before .loop-test .taken)
+    (Head (c .before) .loop .inv) (c .before .before .before .trade-at .ensures) (c .before .before .part .ensures)
 
 pub traded-spec : {M : Type 1} → statement M
-traded-spec =
-    tie.close
-    (tie.spec
+traded-spec = tie.close (tie.spec
     Inv-loop
     μ-loop
-    loop-holds
-    trade-at-requires
-    part-requires
+    (λ c. trading-none _ _ _)  -- loop-holds
+    (λ c κs. omega arith)  -- trade-at-requires
+    (λ c κs. sized-at _ _ (c .before .before .before .before .pre) _ _ (c .before .loop-test .taken) (c .trade-at .ensures))  -- part-requires
     add-value
     add-lots
-    add-i
-    loop-less
+    (λ c. omega arith)  -- add-i
+    (λ c. omega arith)  -- loop-less
     loop-again
-    returns)
+    (λ c. trading-done _ _ _ (c .before .before .before .pre) _ _ _ (c .loop-test .left) (c .before .loop .inv)))  -- returns

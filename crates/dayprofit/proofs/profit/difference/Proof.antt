@@ -6,17 +6,9 @@ use borrow.Author.Needs.{needs}
 use Rattle.dayprofit.proofs.profit.difference.Statement.{statement}
 use Rattle.dayprofit.proofs.profit.difference.Tie as tie
 
-cast-result : tie.Need-cast-result
-cast-result c = search needs
-
-cast-result-2 : tie.Need-cast-result-2
-cast-result-2 c = search needs
-
-sub-result : tie.Need-sub-result
-sub-result c = sub-fits {m = 4_000_000_000_000} {n = 4_000_000_000_000} (within-pos (c .pre .0)) (within-pos (c .pre .1)) (omega arith)
-
-returns : tie.Need-returns
-returns c = sub-back {m = 4_000_000_000_000} {n = 4_000_000_000_000} (within-pos (c .pre .0)) (within-pos (c .pre .1)) (omega arith)
-
 pub difference-spec : {M : Type 1} → statement M
-difference-spec = tie.close (tie.spec cast-result cast-result-2 sub-result returns)
+difference-spec = tie.close (tie.spec
+    (λ c. search needs)  -- cast-result
+    (λ c. search needs)  -- cast-result-2
+    (λ c. sub-fits {m = 4_000_000_000_000} {n = 4_000_000_000_000} (within-pos (c .pre .0)) (within-pos (c .pre .1)) (omega arith))  -- sub-result
+    (λ c. sub-back {m = 4_000_000_000_000} {n = 4_000_000_000_000} (within-pos (c .pre .0)) (within-pos (c .pre .1)) (omega arith)))  -- returns

@@ -13,60 +13,50 @@ Inv-loop area count left₀ used₀ i₀ left used i = Passing (Taken left₀) a
 abbrev μ-loop : tie.MeasureT-loop
 μ-loop area count left₀ used₀ i₀ left used i = count - i
 
+-- back to the start
+abbrev Begun : tie.At-loop Inv-loop μ-loop → tie.Start Inv-loop μ-loop
+Begun c = c .before .before .before .before
+
+-- back to the call of `take-leg`
+abbrev Take-leg : tie.After-take-leg-arg4 Inv-loop μ-loop → tie.After-take-leg Inv-loop μ-loop
+Take-leg c = c .before .before .before .before .before .before
+
+-- back to the call of `take-leg2`
+abbrev Take-leg2 : tie.After-slice-known6 Inv-loop μ-loop → tie.After-take-leg2 Inv-loop μ-loop
+Take-leg2 c = c .before .before .before .before
+
 -- the trade that a turn reads
-read : (c : tie.After-trade-at Inv-loop μ-loop) → let s = c .before .before .before .before .before .before in TradeRead (s .args .area .now) (s .args .count) (c .before .before .loop .i) (c .trade-at .result)
-read c = record { placed = c .before .before .before .before .before .before .pre .0; here = c .before .loop-test .taken; read = c .trade-at .ensures }
-
-loop-holds : tie.Need-loop-holds Inv-loop μ-loop
-loop-holds c = taking-none _ _ _ _ (c .before .before .before .pre .1) (c .before .before .before .pre .2)
-
-trade-at-requires : tie.Need-trade-at-requires Inv-loop μ-loop
-trade-at-requires c κs = omega (arith, c .before .before .before .before .before .pre .0 .trades .room)
+read : (c : tie.After-trade-at Inv-loop μ-loop) → let s = Begun (c .before .before) in TradeRead (s .args .area .now) (s .args .count) (c .before .before .loop .i) (c .trade-at .result)
+read c = record { placed = Begun (c .before .before) .pre .0; here = c .before .loop-test .taken; read = c .trade-at .ensures }
 
 take-leg-requires : tie.Need-take-leg-requires Inv-loop μ-loop
-take-leg-requires c κs = buy-addable (read (c .before .before)) (taking (c .before .before .before .before .before .before .before .before .args .left .now)) (c .before .before .before .before .loop .inv)
+take-leg-requires c κs = buy-addable (read (c .before .before)) (taking (Begun (c .before .before .before .before) .args .left .now)) (c .before .before .before .before .loop .inv)
 
 take-leg-requires-2 : tie.Need-take-leg-requires-2 Inv-loop μ-loop
 take-leg-requires-2 c κs =
-    let t = c .before .before .before .before .before .before .before .before .before in
-    let buy = c .before .before .before .before .before .before .take-leg .ensures in
-    sell-addable (read t) (taking (t .before .before .before .before .before .before .args .left .now)) (t .before .before .loop .inv) (buy .0) (buy .1)
-
-add-i : tie.Need-add-i Inv-loop μ-loop
-add-i c = omega arith
-
-loop-less : tie.Need-loop-less Inv-loop μ-loop
-loop-less c = omega arith
+    let t = Take-leg c .before .before .before in
+    let buy = Take-leg c .take-leg .ensures in
+    sell-addable (read t) (taking (Begun (t .before .before) .args .left .now)) (t .before .before .loop .inv) (buy .0) (buy .1)
 
 loop-again : tie.Need-loop-again Inv-loop μ-loop
 loop-again c =
-    let t = c .before .before .before .before .before .before .before .before .before .before .before .before .before .before in
-    let buy = c .before .before .before .before .before .before .before .before .before .before .before .take-leg .ensures in
+    let take-leg = Take-leg (Take-leg2 c .before) in
+    let t = take-leg .before .before .before in
+    let buy = take-leg .take-leg .ensures in
     let sell = c .before .before .before .before .take-leg2 .ensures in
-    passing-more (read t) (taking (t .before .before .before .before .before .before .args .left .now)) (t .before .before .loop .inv) (buy .0) (buy .1) (sell .0) (sell .1)
-
-same-length : tie.Need-same-length Inv-loop μ-loop
-same-length c = c .before .loop .inv .kept .room ∙ sym (c .before .before .before .before .before .pre .1)
-
-same-length-2 : tie.Need-same-length-2 Inv-loop μ-loop
-same-length-2 c = c .before .loop .inv .kept .room-too ∙ sym (ap length (c .before .before .before .before .before .pre .2))
-
-returns : tie.Need-returns Inv-loop μ-loop
-returns c = taking-done _ _ _ _ _ _ (c .loop-test .left) (c .before .loop .inv)
+    passing-more (read t) (taking (Begun (t .before .before) .args .left .now)) (t .before .before .loop .inv) (buy .0) (buy .1) (sell .0) (sell .1)
 
 pub take-first-spec : {M : Type 1} → statement M
-take-first-spec =
-    tie.close
-    (tie.spec
+take-first-spec = tie.close (tie.spec
     Inv-loop
     μ-loop
-    loop-holds
-    trade-at-requires
+    (λ c. taking-none _ _ _ _ (c .before .before .before .pre .1) (c .before .before .before .pre .2))  -- loop-holds
+    (λ c κs. omega (arith, Begun (c .before) .pre .0 .trades .room))  -- trade-at-requires
     take-leg-requires
     take-leg-requires-2
-    add-i
-    loop-less
+    (λ c. omega arith)  -- add-i
+    (λ c. omega arith)  -- loop-less
     loop-again
-    same-length
-    same-length-2
-    returns)
+    (λ c. c .before .loop .inv .kept .room ∙ sym (Begun (c .before) .pre .1))  -- same-length
+    (λ c. c .before .loop .inv .kept .room-too ∙ sym (ap length (Begun (c .before) .pre .2)))  -- same-length-2
+    (λ c. taking-done _ _ _ _ _ _ (c .loop-test .left) (c .before .loop .inv)))  -- returns

@@ -35,39 +35,6 @@ found : (c : tie.After-count-kept)
     Found file (c .before .head-end .result) (wholeRecords file (c .before .head-end .result)) (c .count-kept .result)
 found c = record { sound = sound (c .before .before); place = c .before .head-end .ensures; records = refl; keeps = c .count-kept .ensures }
 
-head-sound-requires : tie.Need-head-sound-requires
-head-sound-requires c κs = search needs
-
-returns : tie.Need-returns
-returns c = head-broken _ _ _ (sym (c .before .head-sound .ensures) ∙ not-true _ (c .if1 .taken))
-
-head-end-requires : tie.Need-head-end-requires
-head-end-requires c κs = sound c
-
-sub-n : tie.Need-sub-n
-sub-n c = within c
-
-count-kept-requires : tie.Need-count-kept-requires
-count-kept-requires c κs = whole-within (Begun (c .before) .args .file .now) _ (within c)
-
-count-dropped-requires : tie.Need-count-dropped-requires
-count-dropped-requires c κs = (within (c .before), refl, c .count-kept .ensures)
-
-mul-length : tie.Need-mul-length
-mul-length c = omega (arith, mended-most (found (c .before)))
-
-add-length : tie.Need-add-length
-add-length c = omega (arith, mended-most (found (c .before)))
-
-mul-listed : tie.Need-mul-listed
-mul-listed c = omega (arith, listed-most (listed (found (c .before)) (c .count-dropped .ensures)))
-
-add-listed : tie.Need-add-listed
-add-listed c = omega (arith, listed-most (listed (found (c .before)) (c .count-dropped .ensures)))
-
-returns-2 : tie.Need-returns-2
-returns-2 c = out-short (found (c .before .before)) (c .before .count-dropped .ensures) _ _ (c .if2 .taken)
-
 returns-3 : tie.Need-returns-3
 returns-3 c = list-short (found (c .before .before .before)) (c .before .before .count-dropped .ensures) _ _ (omega (arith, c .before .if2 .left)) (c .if3 .taken)
 
@@ -81,12 +48,6 @@ put-list-requires c κs =
     let l = listed (found (Past-if3 c .before .before .before)) (Past-if3 c .before .before .count-dropped .ensures) in
     ((l .within, refl, l .drops), list-fits l (omega (arith, Past-if3 c .if3 .left)))
 
-same-length : tie.Need-same-length
-same-length c = search needs
-
-same-length-2 : tie.Need-same-length-2
-same-length-2 c = search needs
-
 returns-4 : tie.Need-returns-4
 returns-4 c =
     let fits = Past-if3 (c .before .before .before) in
@@ -94,23 +55,21 @@ returns-4 c =
     (Put-file (c .before .before) .put-file .ensures) (c .before .before .put-list .ensures)
 
 pub mend-spec : {M : Type 1} → statement M
-mend-spec =
-    tie.close
-    (tie.spec
-    head-sound-requires
-    returns
-    head-end-requires
-    sub-n
-    count-kept-requires
-    count-dropped-requires
-    mul-length
-    add-length
-    mul-listed
-    add-listed
-    returns-2
+mend-spec = tie.close (tie.spec
+    (λ c κs. search needs)  -- head-sound-requires
+    (λ c. head-broken _ _ _ (sym (c .before .head-sound .ensures) ∙ not-true _ (c .if1 .taken)))  -- returns
+    (λ c κs. sound c)  -- head-end-requires
+    (λ c. within c)  -- sub-n
+    (λ c κs. whole-within (Begun (c .before) .args .file .now) _ (within c))  -- count-kept-requires
+    (λ c κs. (within (c .before), refl, c .count-kept .ensures))  -- count-dropped-requires
+    (λ c. omega (arith, mended-most (found (c .before))))  -- mul-length
+    (λ c. omega (arith, mended-most (found (c .before))))  -- add-length
+    (λ c. omega (arith, listed-most (listed (found (c .before)) (c .count-dropped .ensures))))  -- mul-listed
+    (λ c. omega (arith, listed-most (listed (found (c .before)) (c .count-dropped .ensures))))  -- add-listed
+    (λ c. out-short (found (c .before .before)) (c .before .count-dropped .ensures) _ _ (c .if2 .taken))  -- returns-2
     returns-3
     put-file-requires
     put-list-requires
-    same-length
-    same-length-2
+    (λ c. search needs)  -- same-length
+    (λ c. search needs)  -- same-length-2
     returns-4)

@@ -12,9 +12,6 @@ Head c = c .before .before .before
 found : (c : tie.Start) → Found (c .args .file .now) (c .args .first) (c .args .n) (c .args .kept)
 found c = record { sound = c .pre .0 .0; place = c .pre .0 .1; records = c .pre .1 .0 .0; keeps = c .pre .1 .0 .1 }
 
-sub-put-part : tie.Need-sub-put-part
-sub-put-part c = omega (arith, first-within (found (c .before .before .before)) .0)
-
 put-part-requires : tie.Need-put-part-requires
 put-part-requires c κs = let h = first-within (found (c .before .before .before)) in (omega (arith, head-fits (found (c .before .before .before)) (c .before .before .before .pre .1 .1)), omega arith)
 
@@ -29,20 +26,12 @@ put-kept-requires c κs =
     let head = Head (c .before .before .before .before) in
     let start = head .before .before .before .before in kept-room (found start) (head .put-part .ensures) (start .pre .1 .1) (c .before .before .before .put-u32 .ensures)
 
-same-length : tie.Need-same-length
-same-length c = search needs
-
-returns : tie.Need-returns
-returns c = search file-written
-
 pub put-file-spec : {M : Type 1} → statement M
-put-file-spec =
-    tie.close
-    (tie.spec
-    sub-put-part
+put-file-spec = tie.close (tie.spec
+    (λ c. omega (arith, first-within (found (c .before .before .before)) .0))  -- sub-put-part
     put-part-requires
     cast-put-u32
     put-u32-requires
     put-kept-requires
-    same-length
-    returns)
+    (λ c. search needs)  -- same-length
+    (λ c. search file-written))  -- returns

@@ -16,21 +16,6 @@ Count c = c .before .before .before .before .before .before .before
 listed : (c : tie.Start) → Listed (c .args .file .now) (c .args .first) (c .args .n) (c .args .dropped)
 listed c = record { within = c .pre .0 .0; records = c .pre .0 .1; drops = c .pre .0 .2 }
 
-sub-rest : tie.Need-sub-rest
-sub-rest c = search needs
-
-put-u64-requires : tie.Need-put-u64-requires
-put-u64-requires c κs = omega (arith, number-fits (listed (c .before .before .before)) (c .before .before .before .pre .1))
-
-put-dropped-requires : tie.Need-put-dropped-requires
-put-dropped-requires c κs = entries-room (listed (Begun c)) (c .before .before .before .put-u64 .ensures) (Begun c .pre .1)
-
-same-length : tie.Need-same-length
-same-length c = search needs
-
-returns : tie.Need-returns
-returns c = search list-whole
-
 put-entry-requires : tie.Need-put-entry-requires
 put-entry-requires c κs =
     let start = Count (c .before) .before .before .before .before in (
@@ -39,21 +24,13 @@ put-entry-requires c κs =
       omega (arith, start .fits, listed-within (listed start)),
     )
 
-same-length-2 : tie.Need-same-length-2
-same-length-2 c = search needs
-
-returns-2 : tie.Need-returns-2
-returns-2 c = search list-partial
-
 pub put-list-spec : {M : Type 1} → statement M
-put-list-spec =
-    tie.close
-    (tie.spec
-    sub-rest
-    put-u64-requires
-    put-dropped-requires
-    same-length
-    returns
+put-list-spec = tie.close (tie.spec
+    (λ c. search needs)  -- sub-rest
+    (λ c κs. omega (arith, number-fits (listed (c .before .before .before)) (c .before .before .before .pre .1)))  -- put-u64-requires
+    (λ c κs. entries-room (listed (Begun c)) (c .before .before .before .put-u64 .ensures) (Begun c .pre .1))  -- put-dropped-requires
+    (λ c. search needs)  -- same-length
+    (λ c. search list-whole)  -- returns
     put-entry-requires
-    same-length-2
-    returns-2)
+    (λ c. search needs)  -- same-length-2
+    (λ c. search list-partial))  -- returns-2

@@ -17,49 +17,17 @@ abbrev μ-loop : tie.MeasureT-loop
 abbrev Begun : tie.Else1 Inv-loop μ-loop → tie.Start Inv-loop μ-loop
 Begun c = c .before .before .before .before .before
 
-loop-holds : tie.Need-loop-holds Inv-loop μ-loop
-loop-holds c = (omega arith, kept-none _ _)
-
-reason-requires : tie.Need-reason-requires Inv-loop μ-loop
-reason-requires c κs = omega (arith, c .before .before .before .pre)
-
-add-k : tie.Need-add-k Inv-loop μ-loop
-add-k c = omega arith
-
-loop-less : tie.Need-loop-less Inv-loop μ-loop
-loop-less c = omega arith
-
-loop-again : tie.Need-loop-again Inv-loop μ-loop
-loop-again c = (omega arith, count-drops _ _ _ _ _ (c .before .before .before .loop .inv .1) (c .before .reason .ensures) (c .if1 .taken))
-
-add-kept : tie.Need-add-kept Inv-loop μ-loop
-add-kept c = omega (arith, kept-most (Begun c .args .file .now) (Begun c .args .first) (c .before .before .before .loop .k))
-
-add-k-2 : tie.Need-add-k-2 Inv-loop μ-loop
-add-k-2 c = omega arith
-
-loop-less-2 : tie.Need-loop-less-2 Inv-loop μ-loop
-loop-less-2 c = omega arith
-
-loop-again-2 : tie.Need-loop-again-2 Inv-loop μ-loop
-loop-again-2 c = (omega arith, count-keeps _ _ _ _ _ (c .before .before .before .loop .inv .1) (c .before .reason .ensures) (c .if1 .left))
-
-returns : tie.Need-returns Inv-loop μ-loop
-returns c = let e : c .before .loop .k ≡ c .before .before .before .args .n = omega arith in rw (← e) (c .before .loop .inv .1)
-
 pub count-kept-spec : {M : Type 1} → statement M
-count-kept-spec =
-    tie.close
-    (tie.spec
+count-kept-spec = tie.close (tie.spec
     Inv-loop
     μ-loop
-    loop-holds
-    reason-requires
-    add-k
-    loop-less
-    loop-again
-    add-kept
-    add-k-2
-    loop-less-2
-    loop-again-2
-    returns)
+    (λ c. (omega arith, kept-none _ _))  -- loop-holds
+    (λ c κs. omega (arith, c .before .before .before .pre))  -- reason-requires
+    (λ c. omega arith)  -- add-k
+    (λ c. omega arith)  -- loop-less
+    (λ c. (omega arith, count-drops _ _ _ _ _ (c .before .before .before .loop .inv .1) (c .before .reason .ensures) (c .if1 .taken)))  -- loop-again
+    (λ c. omega (arith, kept-most (Begun c .args .file .now) (Begun c .args .first) (c .before .before .before .loop .k)))  -- add-kept
+    (λ c. omega arith)  -- add-k-2
+    (λ c. omega arith)  -- loop-less-2
+    (λ c. (omega arith, count-keeps _ _ _ _ _ (c .before .before .before .loop .inv .1) (c .before .reason .ensures) (c .if1 .left)))  -- loop-again-2
+    (λ c. let e : c .before .loop .k ≡ c .before .before .before .args .n = omega arith in rw (← e) (c .before .loop .inv .1)))  -- returns

@@ -22,21 +22,6 @@ Begun c = c .before .before .before .before .before
 abbrev Why : tie.After-slice-known2 Inv-loop μ-loop → tie.After-reason Inv-loop μ-loop
 Why c = c .before .before .before .before .before
 
-loop-holds : tie.Need-loop-holds Inv-loop μ-loop
-loop-holds c = (omega arith, (kept-none _ _, none-dropped _ _ (omega (arith, c .before .before .pre .1))))
-
-reason-requires : tie.Need-reason-requires Inv-loop μ-loop
-reason-requires c κs = omega (arith, c .before .before .before .before .pre .0)
-
-add-kept : tie.Need-add-kept Inv-loop μ-loop
-add-kept c = omega (arith, kept-most (Begun (c .before) .args .file .now) (Begun (c .before) .args .first) (c .before .before .before .loop .k))
-
-add-k : tie.Need-add-k Inv-loop μ-loop
-add-k c = omega arith
-
-loop-less : tie.Need-loop-less Inv-loop μ-loop
-loop-less c = omega arith
-
 loop-again : tie.Need-loop-again Inv-loop μ-loop
 loop-again c = (
   omega arith,
@@ -55,12 +40,6 @@ put-entry-requires c κs =
       omega (arith, start .fits),
     )
 
-add-k-2 : tie.Need-add-k-2 Inv-loop μ-loop
-add-k-2 c = omega arith
-
-loop-less-2 : tie.Need-loop-less-2 Inv-loop μ-loop
-loop-less-2 c = omega arith
-
 loop-again-2 : tie.Need-loop-again-2 Inv-loop μ-loop
 loop-again-2 c = (
   omega arith,
@@ -71,27 +50,19 @@ loop-again-2 c = (
   ),
 )
 
-same-length : tie.Need-same-length Inv-loop μ-loop
-same-length c = c .before .loop .inv .1 .1 .kept
-
-returns : tie.Need-returns Inv-loop μ-loop
-returns c = let e : c .before .loop .k ≡ c .before .before .before .before .args .n = omega arith in rw (← e) (c .before .loop .inv .1 .1)
-
 pub put-dropped-spec : {M : Type 1} → statement M
-put-dropped-spec =
-    tie.close
-    (tie.spec
+put-dropped-spec = tie.close (tie.spec
     Inv-loop
     μ-loop
-    loop-holds
-    reason-requires
-    add-kept
-    add-k
-    loop-less
+    (λ c. (omega arith, (kept-none _ _, none-dropped _ _ (omega (arith, c .before .before .pre .1)))))  -- loop-holds
+    (λ c κs. omega (arith, c .before .before .before .before .pre .0))  -- reason-requires
+    (λ c. omega (arith, kept-most (Begun (c .before) .args .file .now) (Begun (c .before) .args .first) (c .before .before .before .loop .k)))  -- add-kept
+    (λ c. omega arith)  -- add-k
+    (λ c. omega arith)  -- loop-less
     loop-again
     put-entry-requires
-    add-k-2
-    loop-less-2
+    (λ c. omega arith)  -- add-k-2
+    (λ c. omega arith)  -- loop-less-2
     loop-again-2
-    same-length
-    returns)
+    (λ c. c .before .loop .inv .1 .1 .kept)  -- same-length
+    (λ c. let e : c .before .loop .k ≡ c .before .before .before .before .args .n = omega arith in rw (← e) (c .before .loop .inv .1 .1)))  -- returns

@@ -23,18 +23,6 @@ Begun c = c .before .before .before .before .before .before .before
 abbrev Why : tie.After-slice-known2 Inv-loop μ-loop → tie.After-reason Inv-loop μ-loop
 Why c = c .before .before .before .before .before
 
-loop-holds : tie.Need-loop-holds Inv-loop μ-loop
-loop-holds c = (omega arith, (kept-none _ _, none-kept _ _ (omega (arith, c .before .before .pre .1))))
-
-reason-requires : tie.Need-reason-requires Inv-loop μ-loop
-reason-requires c κs = omega (arith, c .before .before .before .before .pre .0)
-
-add-k : tie.Need-add-k Inv-loop μ-loop
-add-k c = omega arith
-
-loop-less : tie.Need-loop-less Inv-loop μ-loop
-loop-less c = omega arith
-
 loop-again : tie.Need-loop-again Inv-loop μ-loop
 loop-again c = (
   omega arith,
@@ -44,12 +32,6 @@ loop-again c = (
         _ _ _ _ _ (c .before .before .before .loop .inv .1 .0) (c .before .reason .ensures) (c .if1 .taken) (c .before .before .before .loop .inv .1 .1),
   ),
 )
-
-mul-put-part : tie.Need-mul-put-part Inv-loop μ-loop
-mul-put-part c = omega (arith, Begun c .pre .0)
-
-add-put-part : tie.Need-add-put-part Inv-loop μ-loop
-add-put-part c = omega (arith, Begun c .pre .0)
 
 put-part-requires : tie.Need-put-part-requires Inv-loop μ-loop
 put-part-requires c κs = (
@@ -63,12 +45,6 @@ add-kept c =
     let start = Begun (c .before .before .before) in
     omega (arith, kept-most (start .args .file .now) (start .args .first) (Why c .before .before .loop .k))
 
-add-k-2 : tie.Need-add-k-2 Inv-loop μ-loop
-add-k-2 c = omega arith
-
-loop-less-2 : tie.Need-loop-less-2 Inv-loop μ-loop
-loop-less-2 c = omega arith
-
 loop-again-2 : tie.Need-loop-again-2 Inv-loop μ-loop
 loop-again-2 c = (
   omega arith,
@@ -79,29 +55,21 @@ loop-again-2 c = (
   ),
 )
 
-same-length : tie.Need-same-length Inv-loop μ-loop
-same-length c = c .before .loop .inv .1 .1 .kept
-
-returns : tie.Need-returns Inv-loop μ-loop
-returns c = let e : c .before .loop .k ≡ c .before .before .before .before .args .n = omega arith in rw (← e) (c .before .loop .inv .1 .1)
-
 pub put-kept-spec : {M : Type 1} → statement M
-put-kept-spec =
-    tie.close
-    (tie.spec
+put-kept-spec = tie.close (tie.spec
     Inv-loop
     μ-loop
-    loop-holds
-    reason-requires
-    add-k
-    loop-less
+    (λ c. (omega arith, (kept-none _ _, none-kept _ _ (omega (arith, c .before .before .pre .1)))))  -- loop-holds
+    (λ c κs. omega (arith, c .before .before .before .before .pre .0))  -- reason-requires
+    (λ c. omega arith)  -- add-k
+    (λ c. omega arith)  -- loop-less
     loop-again
-    mul-put-part
-    add-put-part
+    (λ c. omega (arith, Begun c .pre .0))  -- mul-put-part
+    (λ c. omega (arith, Begun c .pre .0))  -- add-put-part
     put-part-requires
     add-kept
-    add-k-2
-    loop-less-2
+    (λ c. omega arith)  -- add-k-2
+    (λ c. omega arith)  -- loop-less-2
     loop-again-2
-    same-length
-    returns)
+    (λ c. c .before .loop .inv .1 .1 .kept)  -- same-length
+    (λ c. let e : c .before .loop .k ≡ c .before .before .before .before .args .n = omega arith in rw (← e) (c .before .loop .inv .1 .1)))  -- returns

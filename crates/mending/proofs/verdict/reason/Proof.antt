@@ -5,9 +5,7 @@ use Rattle.mending.proofs.verdict.reason.Statement.{statement}
 use Rattle.mending.proofs.verdict.reason.Tie as tie
 
 pub reason-spec : {M : Type 1} → statement M
-reason-spec =
-    tie.close
-    (tie.spec
+reason-spec = tie.close (tie.spec
     (λ c. search needs)  -- mul-record-at
     (λ c. search needs)  -- add-record-at
     (λ c κs. search needs)  -- record-at-requires
