@@ -39,10 +39,11 @@ rest-marked-requires c κs =
     let removed = named .before .before .before .before .before in
     let start = Begun removed in
     let q = start .args .q in
-    let gone = removed .remove-quote .ensures in
-    (gone-formed (start .pre .0) (q .account) (q .contract) (q .lots) (q .buy) (q .sell) (start .pre .1) (gone .lies),
-    buy-quotable (start .pre .0) (q .account) (q .contract) (q .lots) (q .buy) (q .sell) (start .pre .1) (gone .lies) (named .day-limit .ensures),
-    rw (named .day-limit .ensures, gone .accounts) (start .pre .2))
+    let gone = removed .remove-quote .ensures in (
+      gone-formed (start .pre .0) (q .account) (q .contract) (q .lots) (q .buy) (q .sell) (start .pre .1) (gone .lies),
+      buy-quotable (start .pre .0) (q .account) (q .contract) (q .lots) (q .buy) (q .sell) (start .pre .1) (gone .lies) (named .day-limit .ensures),
+      rw (named .day-limit .ensures, gone .accounts) (start .pre .2),
+    )
 
 returns : tie.Need-returns
 returns c =
@@ -69,10 +70,11 @@ rest-marked-requires-2 c κs =
     let rested = written .before .before in
     let bought = Bought rested in
     let removed = Removed bought in
-    let start = Begun removed in
-    (after-formed (start .pre .0) (start .args .q) (start .pre .1) (removed .remove-quote .ensures) (Bid bought .day-limit .ensures) (bought .rest-marked .ensures) (rested .before .if1 .left) (rested .if2 .left) (written .with-listed .ensures),
-    after-quotable (start .pre .0) (start .args .q) (start .pre .1) (removed .remove-quote .ensures) (Bid bought .day-limit .ensures) (bought .rest-marked .ensures) (rested .before .if1 .left) (rested .if2 .left) (written .with-listed .ensures) (named .day-limit2 .ensures),
-    rw (named .day-limit2 .ensures) (after-held (start .pre .0) (start .args .q) (start .pre .1) (removed .remove-quote .ensures) (Bid bought .day-limit .ensures) (bought .rest-marked .ensures) (rested .before .if1 .left) (rested .if2 .left) (written .with-listed .ensures) (start .pre .2)))
+    let start = Begun removed in (
+      after-formed (start .pre .0) (start .args .q) (start .pre .1) (removed .remove-quote .ensures) (Bid bought .day-limit .ensures) (bought .rest-marked .ensures) (rested .before .if1 .left) (rested .if2 .left) (written .with-listed .ensures),
+      after-quotable (start .pre .0) (start .args .q) (start .pre .1) (removed .remove-quote .ensures) (Bid bought .day-limit .ensures) (bought .rest-marked .ensures) (rested .before .if1 .left) (rested .if2 .left) (written .with-listed .ensures) (named .day-limit2 .ensures),
+      rw (named .day-limit2 .ensures) (after-held (start .pre .0) (start .args .q) (start .pre .1) (removed .remove-quote .ensures) (Bid bought .day-limit .ensures) (bought .rest-marked .ensures) (rested .before .if1 .left) (rested .if2 .left) (written .with-listed .ensures) (start .pre .2)),
+    )
 
 same-length-5 : tie.Need-same-length-5
 same-length-5 c =
@@ -126,8 +128,11 @@ add-t30 c =
     let bought = Bought rested in
     let removed = Removed bought in
     let start = Begun removed in
-    omega (arith, both-fit (start .pre .0) (start .args .q) (start .pre .1) (removed .remove-quote .ensures) (Bid bought .day-limit .ensures) (bought .rest-marked .ensures) (rested .before .if1 .left) (rested .if2 .left)
-    (sold .before .before .before .before .with-listed .ensures) (Offer sold .day-limit2 .ensures) (sold .rest-marked2 .ensures) (passed .before .if3 .left) (passed .if4 .left))
+    omega (
+      arith,
+      both-fit (start .pre .0) (start .args .q) (start .pre .1) (removed .remove-quote .ensures) (Bid bought .day-limit .ensures) (bought .rest-marked .ensures) (rested .before .if1 .left) (rested .if2 .left)
+          (sold .before .before .before .before .with-listed .ensures) (Offer sold .day-limit2 .ensures) (sold .rest-marked2 .ensures) (passed .before .if3 .left) (passed .if4 .left),
+    )
 
 add-t31 : tie.Need-add-t31
 add-t31 c =
@@ -137,8 +142,11 @@ add-t31 c =
     let bought = Bought rested in
     let removed = Removed bought in
     let start = Begun removed in
-    omega (arith, both-fit (start .pre .0) (start .args .q) (start .pre .1) (removed .remove-quote .ensures) (Bid bought .day-limit .ensures) (bought .rest-marked .ensures) (rested .before .if1 .left) (rested .if2 .left)
-    (sold .before .before .before .before .with-listed .ensures) (Offer sold .day-limit2 .ensures) (sold .rest-marked2 .ensures) (passed .before .if3 .left) (passed .if4 .left))
+    omega (
+      arith,
+      both-fit (start .pre .0) (start .args .q) (start .pre .1) (removed .remove-quote .ensures) (Bid bought .day-limit .ensures) (bought .rest-marked .ensures) (rested .before .if1 .left) (rested .if2 .left)
+          (sold .before .before .before .before .with-listed .ensures) (Offer sold .day-limit2 .ensures) (sold .rest-marked2 .ensures) (passed .before .if3 .left) (passed .if4 .left),
+    )
 
 same-length-9 : tie.Need-same-length-9
 same-length-9 c =
