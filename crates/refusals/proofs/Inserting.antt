@@ -28,16 +28,18 @@ use Rattle.engine.proofs.Formed.{Formed, formed, holding-at}
 use Rattle.engine.proofs.Named.{allowed, forbidden, no-such-account, no-such-contract}
 use Rattle.engine.proofs.Puts.{trades-count}
 use Rattle.engine.proofs.Tests.{place-below}
+use Rattle.engine.specs.Decision.{listedIn}
 use Rattle.engine.specs.Sides.{sideArea, sideCount}
+use Rattle.engine.specs.declared.updates.Listed.{Listed}
 use Rattle.refusals.specs.Insertion.{Facing, MeetsQueue, Present, QueueRoom}
 use Rattle.refusals.proofs.Sides.{contract-is, contract-terms, opposite-facing, opposite-is, resting-low, side-is, side-room}
 
 -- 10 to 13, in any exchange in which the order meets the queue so
-pub book-tests : {x : Exchange} {o : NewOrder} {s : State} {terms : Contract} {own : ℕ} {t : Taker} {queue : List Order} → MeetsQueue x o s terms own t queue →
+pub book-tests : {x : Exchange} {o : NewOrder} {l : Listed} {terms : Contract} {own : ℕ} {t : Taker} {queue : List Order} → MeetsQueue x o l terms own t queue →
     firstOf (bookRefusals x o)
-    ≡ pick (leb numbersEnd (s .next) || leb numbersEnd (s .nextstamp)) 10
+    ≡ pick (leb numbersEnd (l .next) || leb numbersEnd (l .nextstamp)) 10
     (pick (killRefused (fillable t queue) (o .lots) (o .time)) 11
-    (pick (noRoomFor (s .tradecount) (tradesAgainst terms t (o .lots) queue)) 12
+    (pick (noRoomFor (l .recorded) (tradesAgainst terms t (o .lots) queue)) 12
     (pick (fullRefused (inAuction terms) own (fillable t queue) (o .lots) (o .time)) 13 0)))
 unfolding firstOf fillableLots tradesRefused tradesNeeded
 book-tests m = rw (m .taker, m .opposite-side, m .own-side, m .contract, m .recorded, m .next, m .nextstamp) refl
@@ -182,11 +184,16 @@ module _ {s : State} {buys sells trades : List ℕ} (w : WellFormedState s buys 
         unfolding tradesRefused tradesNeeded
         trades-are er = er ∙ rw (trades-count m f, opposite-queue, taker-is, terms-is) refl
 
-      pub meets : {t : Taker} → t ≡ takerFor (s .next) 0 (s .nextstamp) terms (queueIn area (placeOf (o .contract)) count) o → {own₁ : ℕ} → own₁ ≡ sideCount (o .sell) s place
-          → MeetsQueue x o s terms own₁ t (queueIn area place count)
+      -- the number and the time stamp, read with the contract
+      pub taker-here : {l : Listed} → l ≡ listedIn s place → {t : Taker} (queue : List Order) → t ≡ takerFor (l .next) 0 (l .nextstamp) terms queue o → t ≡ takerFor (s .next) 0 (s .nextstamp) terms queue o
+      taker-here el queue et = et ∙ rw el refl
+
+      pub meets : {l : Listed} → l ≡ listedIn s place → {t : Taker} → t ≡ takerFor (s .next) 0 (s .nextstamp) terms (queueIn area (placeOf (o .contract)) count) o
+          → {own₁ : ℕ} → own₁ ≡ sideCount (o .sell) s place → MeetsQueue x o l terms own₁ t (queueIn area place count)
       unfolding exchangeOf
-      meets et eo =
-          record {
+      meets el et eo =
+          rw el
+          (record {
             next = refl;
             nextstamp = refl;
             recorded = trades-count m f;
@@ -194,7 +201,7 @@ module _ {s : State} {buys sells trades : List ℕ} (w : WellFormedState s buys 
             own-side = own-length eo;
             opposite-side = opposite-queue (s .next) et;
             taker = taker-is (s .next) et;
-          }
+          })
         where
           own-length : {own₁ : ℕ} → own₁ ≡ sideCount (o .sell) s place → length (ownQueue x o) ≡ own₁
           own-length eo = unfold listingOf in rw (eo, is, side-is m f c (p .contract) (o .sell), length-queue) refl

@@ -15,6 +15,7 @@ use Rattle.rules.specs.declared.Order.{Order}
 use Rattle.rules.specs.declared.State.{State}
 use Rattle.rules.specs.declared.Taker.{Taker}
 use Rattle.engine.specs.Outcome.{CodeIn}
+use Rattle.engine.specs.declared.updates.Listed.{Listed}
 
 -- a queue of at most 64 orders, with room in its area
 pub record QueueRoom (area : List ℕ) (c count : ℕ) : Type 0 where
@@ -28,10 +29,10 @@ pub record Facing (t : Taker) (area : List ℕ) (c count : ℕ) : Type 0 where
   pub best : t .best ≡ bestPrice (queueIn area c count)
 
 -- an exchange in which the order meets that queue so: what 10 to 13 read of it
-pub record MeetsQueue (x : Exchange) (o : NewOrder) (s : State) (terms : Contract) (own : ℕ) (t : Taker) (queue : List Order) : Type 0 where
-  pub next : x .next ≡ s .next
-  pub nextstamp : x .nextstamp ≡ s .nextstamp
-  pub recorded : length (x .trades) ≡ s .tradecount
+pub record MeetsQueue (x : Exchange) (o : NewOrder) (l : Listed) (terms : Contract) (own : ℕ) (t : Taker) (queue : List Order) : Type 0 where
+  pub next : x .next ≡ l .next
+  pub nextstamp : x .nextstamp ≡ l .nextstamp
+  pub recorded : length (x .trades) ≡ l .recorded
   pub contract : listingOf x o .contract ≡ terms
   pub own-side : length (ownQueue x o) ≡ own
   pub opposite-side : oppositeQueue x o ≡ queue

@@ -18,6 +18,8 @@ ghost use Rattle.engine.specs.Decision.{HeldBy};
 ghost use Rattle.refusals.specs.Insertion.{Present, QueueRoom, Facing, MeetsQueue, ContinuousIs};
 use crate::orders;
 use engine::answers;
+use engine::updates;
+use engine::updates::Listed;
 use rules::AUCTION;
 use rules::Account;
 use rules::CONTINUOUS;
@@ -279,7 +281,7 @@ fn used_up(next: u32, nextstamp: u32) -> bool
 // Codes 10 to 13, 0 where none holds, in any exchange in which the order meets the opposite queue so, with so many orders on its own
 // side.
 fn book_code(
-    state: State,
+    listed: Listed,
     terms: Contract,
     own: usize,
     area: &[u32],
@@ -288,19 +290,19 @@ fn book_code(
     t: Taker,
     o: NewOrder,
 ) -> u32
-    requires { ⌜ Facing t (now area) c count × (state .tradecount ≤ maxTrades) ⌝ }
-    ensures { λ r. ⌜ ((x : Exchange) → MeetsQueue x o state terms own t (queueIn (now (area .entry)) c count) → r ≡ answer.firstOf (answer.bookRefusals x o)) ⌝ }
+    requires { ⌜ Facing t (now area) c count × (listed .recorded ≤ maxTrades) ⌝ }
+    ensures { λ r. ⌜ ((x : Exchange) → MeetsQueue x o listed terms own t (queueIn (now (area .entry)) c count) → r ≡ answer.firstOf (answer.bookRefusals x o)) ⌝ }
 {
     let time = o.time;
     let lots = o.lots;
     let auction = terms.phase == AUCTION;
-    if used_up(state.next, state.nextstamp) {
+    if used_up(listed.next, listed.nextstamp) {
         return 10;
     }
     if kill_refused(area, c, count, t, lots, time) {
         return 11;
     }
-    if trades_refused(terms, state.tradecount, area, c, count, t, lots) {
+    if trades_refused(terms, listed.recorded, area, c, count, t, lots) {
         return 12;
     }
     if full_refused(auction, own, area, c, count, t, lots, time) {
@@ -333,13 +335,14 @@ pub fn order_code<'a>(
     // read before margin is charged: for what is read of the state after a call, the compiler keeps a copy of the state
     let own = orders::side_count(o.sell, state, c);
     let count = orders::side_count(!o.sell, state, c);
+    let listed = updates::listed_at(state, c);
     let account = account_code(state, who, buys, sells, trades, o);
     if account != 0 {
         return account;
     }
     let area = orders::side_area(!o.sell, buys, sells);
-    let t = orders::taker_of(state.next, 0, state.nextstamp, terms, area, count, o);
-    book_code(state, terms, own, area, c, count, t, o)
+    let t = orders::taker_of(listed.next, 0, listed.nextstamp, terms, area, count, o);
+    book_code(listed, terms, own, area, c, count, t, o)
 }
 
 // The code of the first refusal that holds, 0 where none does. `who` is the account that the order names.
