@@ -825,11 +825,8 @@ class Aims(unittest.TestCase):
 
     ROOT = TOOL.parents[1]
     # Crates that still have answers by long ways or long lines; a crate that has none leaves the list.
-    NOT_YET = """
-        baskets bench_book bench_exchange bench_execute changing clients dayprofit exchange exports
-        insertion quoting refusals saving settlement statements test_book test_bytes
-        """.split()
-    MOST_LINES = 19464
+    NOT_YET = "baskets bench_execute exports quoting statements".split()
+    MOST_LINES = 18_100
 
     def test_no_answer_counts_its_way_back_and_no_line_is_too_long(self):
         for crate in lengths.of_all(self.ROOT):

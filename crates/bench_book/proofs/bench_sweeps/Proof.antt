@@ -23,85 +23,65 @@ abbrev μ-loop : tie.MeasureT-loop
 μ-loop own₀ opposite₀ trades₀ s times t accounts₀ own-count₀ opposite-count₀ made₀ last₀ done₀ own opposite trades accounts own-count opposite-count made last done =
     times - done
 
-taker-requires : tie.Need-taker-requires Inv-loop μ-loop
-taker-requires c κs = search needs
+-- back to the start
+abbrev Begun : tie.At-loop Inv-loop μ-loop → tie.Start Inv-loop μ-loop
+Begun c = c .before .before .before .before .before .before
 
-accounts-with-requires : tie.Need-accounts-with-requires Inv-loop μ-loop
-accounts-with-requires c κs = search needs
+-- back to the loop's head
+abbrev Head : tie.After-enter Inv-loop μ-loop → tie.At-loop Inv-loop μ-loop
+Head c = c .before .before .before .before .before
 
-loop-holds : tie.Need-loop-holds Inv-loop μ-loop
-loop-holds c = (omega arith, (refl, (refl, (refl, begun _ (c .accounts-with .ensures)))))
+-- back to the call whose answer is `probe`
+abbrev Probe : tie.After-holding Inv-loop μ-loop → tie.After-wide Inv-loop μ-loop
+Probe c = c .before .before .before
+
+-- back to the call of `enter`
+abbrev Enter : tie.After-accounts Inv-loop μ-loop → tie.After-enter Inv-loop μ-loop
+Enter c = c .before .before .before .before .before .before .before
 
 enter-requires : tie.Need-enter-requires Inv-loop μ-loop
 enter-requires c κs =
     let at = c .before .before .before .before in
-    ready _ (at .before .before .taker .ensures) _ _ (at .loop .inv .1 .1 .1 .1) (at .before .before .before .before .before .before .pre .each _ (c .before .before .before .loop-test .taken))
-
-add-done : tie.Need-add-done Inv-loop μ-loop
-add-done c = omega arith
-
-loop-less : tie.Need-loop-less Inv-loop μ-loop
-loop-less c = omega arith
+    ready _ (at .before .before .taker .ensures) _ _ (at .loop .inv .1 .1 .1 .1) (Begun at .pre .each _ (c .before .before .before .loop-test .taken))
 
 loop-again : tie.Need-loop-again Inv-loop μ-loop
 loop-again c =
-    let called = c .before .before .before .before .before .before .before in
-    let at = called .before .before .before .before .before in
-    (omega arith, (called .enter .kept .0 ∙ at .loop .inv .1 .0, (called .enter .kept .1 .1 .0 ∙ at .loop .inv .1 .1 .0, (called .enter .kept .1 .1 .1 .1 .0 ∙ at .loop .inv .1 .1 .1 .0, once-more _ (at .before .before .taker .ensures) _ _ (at .loop .inv .1 .1 .1 .1) (called .enter .ensures)))))
-
-wide-requires : tie.Need-wide-requires Inv-loop μ-loop
-wide-requires c κs = search needs
-
-wide-requires-2 : tie.Need-wide-requires-2 Inv-loop μ-loop
-wide-requires-2 c κs = search needs
-
-mul-account : tie.Need-mul-account Inv-loop μ-loop
-mul-account c = search needs
-
-array-copy-out-account : tie.Need-array-copy-out-account Inv-loop μ-loop
-array-copy-out-account c = search needs
-
-mul-holding : tie.Need-mul-holding Inv-loop μ-loop
-mul-holding c = search needs
-
-element-copy-out-holding : tie.Need-element-copy-out-holding Inv-loop μ-loop
-element-copy-out-holding c = search needs
-
-same-length : tie.Need-same-length Inv-loop μ-loop
-same-length c = search needs
-
-same-length-2 : tie.Need-same-length-2 Inv-loop μ-loop
-same-length-2 c = search needs
-
-same-length-3 : tie.Need-same-length-3 Inv-loop μ-loop
-same-length-3 c = search needs
+    let called = Enter c in
+    let at = Head called in (
+      omega arith,
+      (
+        called .enter .kept .0 ∙ at .loop .inv .1 .0,
+        (
+          called .enter .kept .1 .1 .0 ∙ at .loop .inv .1 .1 .0,
+          (called .enter .kept .1 .1 .1 .1 .0 ∙ at .loop .inv .1 .1 .1 .0, once-more _ (at .before .before .taker .ensures) _ _ (at .loop .inv .1 .1 .1 .1) (called .enter .ensures)),
+        ),
+      ),
+    )
 
 returns : tie.Need-returns Inv-loop μ-loop
 unfolding holdingAt accountAt
 returns c =
-    let at = c .before .before .before .before .before in
+    let at = Probe c .before .before in
     done _ (at .before .before .taker .ensures) _ _ (at .loop .inv .1 .1 .1 .1) (omega arith) (c .before .before .before .wide .ensures) (c .before .before .wide2 .ensures)
 
 pub bench-sweeps-spec : {M : Type 1} → statement M
-bench-sweeps-spec =
-    tie.close
-    (tie.spec
+bench-sweeps-spec = tie.close (tie.spec
     Inv-loop
     μ-loop
-    taker-requires
-    accounts-with-requires
-    loop-holds
+    (λ c κs. search needs)  -- taker-requires
+    (λ c κs. search needs)  -- accounts-with-requires
+    (λ c. (omega arith, (refl, (refl, (refl, begun _ (c .accounts-with .ensures))))))  -- loop-holds
     enter-requires
-    add-done
-    loop-less
+    (λ c. omega arith)  -- add-done
+    (λ c. omega arith)  -- loop-less
     loop-again
-    wide-requires
-    wide-requires-2
-    mul-account
-    array-copy-out-account
-    mul-holding
-    element-copy-out-holding
-    same-length
-    same-length-2
-    same-length-3
+    (λ c κs. search needs)  -- wide-requires
+    (λ c κs. search needs)  -- wide-requires-2
+    (λ c. search needs)  -- mul-account
+    (λ c. search needs)  -- array-copy-out-account
+    (λ c. search needs)  -- mul-holding
+    (λ c. search needs)  -- element-copy-out-holding
+    (λ c. search needs)  -- same-length
+    (λ c. search needs)  -- same-length-2
+    (λ c. search needs)  -- same-length-3
     returns)

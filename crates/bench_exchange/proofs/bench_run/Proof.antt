@@ -4,35 +4,16 @@ use Rattle.bench_exchange.proofs.Probing.{ran-probed}
 use Rattle.bench_exchange.proofs.bench_run.Statement.{statement}
 use Rattle.bench_exchange.proofs.bench_run.Tie as tie
 
-opening-state-requires : tie.Need-opening-state-requires
-opening-state-requires c κs = search needs
-
-run-requires : tie.Need-run-requires
-run-requires c κs = search needs
-
-probed-requires : tie.Need-probed-requires
-probed-requires c κs = search needs
-
-same-length : tie.Need-same-length
-same-length c = search needs
-
-same-length-2 : tie.Need-same-length-2
-same-length-2 c = search needs
-
-same-length-3 : tie.Need-same-length-3
-same-length-3 c = search needs
-
-returns : tie.Need-returns
-returns c = ran-probed _ (c .before .before .before .before .before .before .before .before .before .before .before .opening-state .ensures) (c .before .before .before .before .before .before .before .run .ensures) _ _ (c .probed .ensures)
+-- back to the call whose answer is `state`
+abbrev State : tie.After-probed → tie.After-run
+State c = c .before .before .before .before .before .before .before
 
 pub bench-run-spec : {M : Type 1} → statement M
-bench-run-spec =
-    tie.close
-    (tie.spec
-    opening-state-requires
-    run-requires
-    probed-requires
-    same-length
-    same-length-2
-    same-length-3
-    returns)
+bench-run-spec = tie.close (tie.spec
+    (λ c κs. search needs)  -- opening-state-requires
+    (λ c κs. search needs)  -- run-requires
+    (λ c κs. search needs)  -- probed-requires
+    (λ c. search needs)  -- same-length
+    (λ c. search needs)  -- same-length-2
+    (λ c. search needs)  -- same-length-3
+    (λ c. ran-probed _ (State c .before .before .before .before .opening-state .ensures) (State c .run .ensures) _ _ (c .probed .ensures)))  -- returns

@@ -55,13 +55,13 @@ reentry-code-requires c κs =
     let p = start (sent gone) .pre in
     let again = sent gone .arriving .ensures in (
       gone-formed (p .formed) _ _ _ _ _ (p .changeable) (p .some) (p .lost) (p .listed) (gone .before .one-less .ensures) (took .take-out .ensures .0)
-      (took .take-out .ensures .1) (gone .with-counts .ensures),
+          (took .take-out .ensures .1) (gone .with-counts .ensures),
       gone-present (p .formed) _ _ _ _ _ (p .changeable) (p .some) (p .lost) (p .listed) (gone .before .one-less .ensures) (took .take-out .ensures .0)
-      (took .take-out .ensures .1) (gone .with-counts .ensures) again,
+          (took .take-out .ensures .1) (gone .with-counts .ensures) again,
       gone-lots (p .formed) _ _ _ _ _ (p .changeable) (p .some) (p .lost) (p .listed) (gone .before .one-less .ensures) (took .take-out .ensures .0)
-      (took .take-out .ensures .1) (gone .with-counts .ensures) again,
+          (took .take-out .ensures .1) (gone .with-counts .ensures) again,
       gone-owner (p .formed) _ _ _ _ _ (p .changeable) (p .some) (p .lost) (p .listed) (gone .before .one-less .ensures) (took .take-out .ensures .0)
-      (took .take-out .ensures .1) (gone .with-counts .ensures) again (p .owner),
+          (took .take-out .ensures .1) (gone .with-counts .ensures) again (p .owner),
     )
 
 put-back-requires : tie.Need-put-back-requires

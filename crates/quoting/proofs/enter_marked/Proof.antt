@@ -6,13 +6,9 @@ use borrow.Author.Needs.{needs}
 use Rattle.quoting.proofs.enter_marked.Statement.{statement}
 use Rattle.quoting.proofs.enter_marked.Tie as tie
 
-place-of-requires : tie.Need-place-of-requires
-place-of-requires c κs =
-    let start = c .before .before .before in
-    marked-low (start .pre .0) (start .args .o) (start .pre .1)
-
-mul-who : tie.Need-mul-who
-mul-who c = search needs
+-- back to the call of `place-of`
+abbrev Place-of : tie.After-order-code-arg3 → tie.After-place-of
+Place-of c = c .before .before .before .before
 
 element-copy-out-who : tie.Need-element-copy-out-who
 element-copy-out-who c =
@@ -21,20 +17,8 @@ element-copy-out-who c =
 
 order-code-requires : tie.Need-order-code-requires
 order-code-requires c κs =
-    let start = c .before .before .before .before .before .before .before .before in
+    let start = Place-of c .before .before .before .before in
     (start .pre .0, start .pre .1 .present, rw (c .before .before .before .before .place-of .ensures))
-
-refused-requires : tie.Need-refused-requires
-refused-requires c κs = search needs
-
-same-length : tie.Need-same-length
-same-length c = search needs
-
-same-length-2 : tie.Need-same-length-2
-same-length-2 c = search needs
-
-same-length-3 : tie.Need-same-length-3
-same-length-3 c = search needs
 
 returns : tie.Need-returns
 returns c =
@@ -93,15 +77,6 @@ carried-requires c κs =
     let may = marked-enterable (here .pre .0) (here .args .o) (here .pre .1) (test .before .order-code .ensures) (test .if1 .left) in
     entered-place (here .pre .0) (here .args .o) _ _ _ may (arrival .arrival-of .ensures) _ _ (done .enter .ensures)
 
-same-length-4 : tie.Need-same-length-4
-same-length-4 c = search needs
-
-same-length-5 : tie.Need-same-length-5
-same-length-5 c = search needs
-
-same-length-6 : tie.Need-same-length-6
-same-length-6 c = search needs
-
 returns-2 : tie.Need-returns-2
 returns-2 c =
     let done = entered (c .before) in
@@ -113,23 +88,21 @@ returns-2 c =
     (carried-told (c .carried .ensures) (order-entered (here .pre .0) (here .args .o) _ _ _ may (arrival .arrival-of .ensures) _ _ (done .enter .ensures)))
 
 pub enter-marked-spec : {M : Type 1} → statement M
-enter-marked-spec =
-    tie.close
-    (tie.spec
-    place-of-requires
-    mul-who
+enter-marked-spec = tie.close (tie.spec
+    (λ c κs. let start = c .before .before .before in marked-low (start .pre .0) (start .args .o) (start .pre .1))  -- place-of-requires
+    (λ c. search needs)  -- mul-who
     element-copy-out-who
     order-code-requires
-    refused-requires
-    same-length
-    same-length-2
-    same-length-3
+    (λ c κs. search needs)  -- refused-requires
+    (λ c. search needs)  -- same-length
+    (λ c. search needs)  -- same-length-2
+    (λ c. search needs)  -- same-length-3
     returns
     add-arrival-of
     arrival-of-requires
     enter-requires
     carried-requires
-    same-length-4
-    same-length-5
-    same-length-6
+    (λ c. search needs)  -- same-length-4
+    (λ c. search needs)  -- same-length-5
+    (λ c. search needs)  -- same-length-6
     returns-2)

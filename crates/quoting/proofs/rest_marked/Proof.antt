@@ -8,6 +8,14 @@ use borrow.Author.Needs.{needs}
 use Rattle.quoting.proofs.rest_marked.Statement.{statement}
 use Rattle.quoting.proofs.rest_marked.Tie as tie
 
+-- back to the call whose answer is `decision`
+abbrev Decision : tie.At-match-keys1 → tie.After-arrive
+Decision c = c .before .before .before .before .before .before
+
+-- back to the call whose answer is `decision`
+abbrev Arrive : tie.After-unrested2 → tie.After-arrive
+Arrive c = c .before .before .before .before .before .before .before
+
 -- from the order's code to its contract as it stands, and from there to the start
 abbrev Stands : tie.After-order-code → tie.After-listed-at
 Stands c = c .before .before .before
@@ -29,7 +37,8 @@ returns c =
     let tested = c .before .before in
     let stands = Stands tested in
     let start = Begun stands in
-    rest-refused (start .pre .0) (start .args .o) (start .pre .1) (tested .order-code .ensures) (stands .before .place-of .ensures) (stands .listed-at .ensures) (c .before .if1 .taken) (c .unrested .ensures)
+    rest-refused (start .pre .0) (start .args .o) (start .pre .1) (tested .order-code .ensures) (stands .before .place-of .ensures)
+    (stands .listed-at .ensures) (c .before .if1 .taken) (c .unrested .ensures)
 
 add-arrival-of : tie.Need-add-arrival-of
 add-arrival-of c =
@@ -48,78 +57,46 @@ arrive-requires c κs =
     let arrival = c .before .before in
     let test = Passed arrival in
     let start = Begun (Stands (test .before)) in
-    ready (start .pre .0) (start .args .o) _ _ _ (marked-enterable (start .pre .0) (start .args .o) (start .pre .1) (test .before .order-code .ensures) (test .if1 .left)) (arrival .arrival-of .ensures) .arrives
+    ready (start .pre .0) (start .args .o) _ _ _ (marked-enterable (start .pre .0) (start .args .o) (start .pre .1) (test .before .order-code .ensures) (test .if1 .left))
+    (arrival .arrival-of .ensures) .arrives
 
 returns-2 : tie.Need-returns-2
 returns-2 c =
-    let entered = c .before .before .before .before .before .before .before .before in
+    let entered = Decision (c .before .before) in
     let arrival = entered .before .before .before in
     let test = Passed arrival in
     let stands = Stands (test .before) in
     let start = Begun stands in
-    rest-rests (start .pre .0) (start .args .o) (start .pre .1) (test .before .order-code .ensures) (stands .before .place-of .ensures) (stands .listed-at .ensures) (test .if1 .left) (arrival .arrival-of .ensures) (entered .arrive .ensures) (c .before .update .given .1)
+    rest-rests (start .pre .0) (start .args .o) (start .pre .1) (test .before .order-code .ensures) (stands .before .place-of .ensures)
+    (stands .listed-at .ensures) (test .if1 .left) (arrival .arrival-of .ensures) (entered .arrive .ensures) (c .before .update .given .1)
 
 returns-3 : tie.Need-returns-3
 returns-3 c =
-    let entered = c .before .before .before .before .before .before .before in
+    let entered = Arrive c in
     let arrival = entered .before .before .before in
     let test = Passed arrival in
     let stands = Stands (test .before) in
     let start = Begun stands in
-    rest-left (start .pre .0) (start .args .o) (start .pre .1) (test .before .order-code .ensures) (stands .before .place-of .ensures) (stands .listed-at .ensures) (test .if1 .left) (arrival .arrival-of .ensures) (entered .arrive .ensures) (c .before .match .keys2) (c .unrested2 .ensures)
-
-place-of-requires : tie.Need-place-of-requires
-place-of-requires c κs = search needs
-
-order-code-requires : tie.Need-order-code-requires
-order-code-requires c κs = search needs
-
-unrested-requires : tie.Need-unrested-requires
-unrested-requires c κs = search needs
-
-same-length : tie.Need-same-length
-same-length c = search needs
-
-same-length-2 : tie.Need-same-length-2
-same-length-2 c = search needs
-
-enum-known-update : tie.Need-enum-known-update
-enum-known-update c = search needs
-
-unrested-requires-2 : tie.Need-unrested-requires-2
-unrested-requires-2 c κs = search needs
-
-same-length-3 : tie.Need-same-length-3
-same-length-3 c = search needs
-
-same-length-4 : tie.Need-same-length-4
-same-length-4 c = search needs
-
-same-length-5 : tie.Need-same-length-5
-same-length-5 c = search needs
-
-same-length-6 : tie.Need-same-length-6
-same-length-6 c = search needs
+    rest-left (start .pre .0) (start .args .o) (start .pre .1) (test .before .order-code .ensures) (stands .before .place-of .ensures)
+    (stands .listed-at .ensures) (test .if1 .left) (arrival .arrival-of .ensures) (entered .arrive .ensures) (c .before .match .keys2) (c .unrested2 .ensures)
 
 pub rest-marked-spec : {M : Type 1} → statement M
-rest-marked-spec =
-    tie.close
-    (tie.spec
-    place-of-requires
+rest-marked-spec = tie.close (tie.spec
+    (λ c κs. search needs)  -- place-of-requires
     listed-at-requires
-    order-code-requires
-    unrested-requires
-    same-length
-    same-length-2
+    (λ c κs. search needs)  -- order-code-requires
+    (λ c κs. search needs)  -- unrested-requires
+    (λ c. search needs)  -- same-length
+    (λ c. search needs)  -- same-length-2
     returns
     add-arrival-of
     arrival-of-requires
     arrive-requires
-    enum-known-update
-    unrested-requires-2
-    same-length-3
-    same-length-4
+    (λ c. search needs)  -- enum-known-update
+    (λ c κs. search needs)  -- unrested-requires-2
+    (λ c. search needs)  -- same-length-3
+    (λ c. search needs)  -- same-length-4
     returns-2
-    same-length-5
-    same-length-6
+    (λ c. search needs)  -- same-length-5
+    (λ c. search needs)  -- same-length-6
     returns-3)

@@ -18,106 +18,117 @@ use borrow.Author.Needs.{needs}
 use Rattle.quoting.proofs.trade.Statement.{statement}
 use Rattle.quoting.proofs.trade.Tie as tie
 
+-- back to the start
+abbrev Begun : tie.Else1 → tie.Start
+Begun c = c .before .before .before .before .before
+
+-- back to the call whose answer is `early`
+abbrev Early : tie.After-refused → tie.After-early-code
+Early c = c .before .before
+
+-- back to the call whose answer is `recorded`
+abbrev Recorded : tie.After-bids2 → tie.After-first-made
+Recorded c = c .before .before .before .before
+
+-- back to the call whose answer is `recorded`
+abbrev First-made : tie.After-keep2 → tie.After-first-made
+First-made c = c .before .before .before .before .before .before .before
+
+-- back to the call of `keep2`
+abbrev Keep2 : tie.After-place-arg3 → tie.After-keep2
+Keep2 c = c .before .before .before .before .before .before .before .before
+
+-- back to the call of `keep3`
+abbrev Keep3 : tie.After-put-back → tie.After-keep3
+Keep3 c = c .before .before .before .before .before .before .before .before .before .before .before .before .before .before .before .before .before
+
+-- back to the call whose answer is `placed`
+abbrev Place : tie.Else2 → tie.After-place
+Place c = c .before .before .before .before .before .before .before .before .before
+
+-- back to the call whose answer is `placed`
+abbrev Placed : tie.After-bids3 → tie.After-place
+Placed c = c .before .before .before .before .before .before .before .before .before .before .before
+
+-- back to the call of `put-back`
+abbrev Put-back : tie.After-offers3 → tie.After-put-back
+Put-back c = c .before .before .before .before
+
+-- back to the call of `put-back2`
+abbrev Put-back2 : tie.After-made3 → tie.After-put-back2
+Put-back2 c = c .before .before .before .before
+
 -- none of 2, 3, 4, 23 and 24 holds
-none : (c : tie.Else1) → let start = c .before .before .before .before .before in firstOf (earlyRefusals (exchangeOf (memory (start .args .state) (now (start .args .buys)) (now (start .args .sells)) (now (start .args .trades)))) (start .args .account) (start .args .contract) (start .args .buy) (start .args .sell)) ≡ 0
-none c = sym (c .before .early-code .ensures (c .before .before .before .before .before .pre .declared) _ _ _) ∙ c .if1 .left
+none : (c : tie.Else1) → let start =
+    Begun c in firstOf (earlyRefusals (exchangeOf (memory (start .args .state) (now (start .args .buys)) (now (start .args .sells)) (now (start .args .trades))))
+    (start .args .account) (start .args .contract) (start .args .buy) (start .args .sell)) ≡ 0
+none c = sym (c .before .early-code .ensures (Begun c .pre .declared) _ _ _) ∙ c .if1 .left
 
-named : (c : tie.Else1) → let start = c .before .before .before .before .before in Failed (namedRefusals (exchangeOf (memory (start .args .state) (now (start .args .buys)) (now (start .args .sells)) (now (start .args .trades)))) notContinuous (start .args .account) (start .args .contract))
-named c = let start = c .before .before .before .before .before in named-passed _ _ _ (start .args .buy) (start .args .sell) (none c)
+named : (c : tie.Else1) → let start =
+    Begun c in Failed (namedRefusals (exchangeOf (memory (start .args .state) (now (start .args .buys)) (now (start .args .sells)) (now (start .args .trades))))
+    notContinuous (start .args .account) (start .args .contract))
+named c = let start = Begun c in named-passed _ _ _ (start .args .buy) (start .args .sell) (none c)
 
-here : (c : tie.Else1) → let start = c .before .before .before .before .before in placeOf (start .args .contract) < start .args .state .contractcount
-here c = contract-here (c .before .before .before .before .before .pre) _ _ (named c)
-
-early-code-requires : tie.Need-early-code-requires
-early-code-requires c κs =
-    let start = c .before .before .before in
-    (formed (start .pre) .contracts-high, formed (start .pre) .accounts-high)
-
-refused-requires : tie.Need-refused-requires
-refused-requires c κs = search needs
+here : (c : tie.Else1) → let start = Begun c in placeOf (start .args .contract) < start .args .state .contractcount
+here c = contract-here (Begun c .pre) _ _ (named c)
 
 returns : tie.Need-returns
 returns c =
-    let start = c .before .before .before .before .before .before in
-    early-refused (start .pre) (start .args .account) (start .args .contract) (start .args .lots) (start .args .buy) (start .args .sell) (c .before .before .early-code .ensures (start .pre .declared) _ _ _) (c .before .if1 .taken) (c .refused .ensures)
-
-place-of-requires : tie.Need-place-of-requires
-place-of-requires c κs =
-    let start = c .before .before .before .before .before in
-    contract-low (start .pre) _ _ (named c)
-
-mul-queue : tie.Need-mul-queue
-mul-queue c = search needs
-
-first-made-requires : tie.Need-first-made-requires
-first-made-requires c κs =
-    let start = c .before .before .before .before .before .before in
-    formed (start .pre) .trades-high
-
-slice-aggregate-keep : tie.Need-slice-aggregate-keep
-slice-aggregate-keep c = search needs
+    let start = Early c .before .before .before .before in
+    early-refused (start .pre) (start .args .account) (start .args .contract) (start .args .lots) (start .args .buy) (start .args .sell)
+    (c .before .before .early-code .ensures (start .pre .declared) _ _ _) (c .before .if1 .taken) (c .refused .ensures)
 
 keep-requires : tie.Need-keep-requires
 keep-requires c κs =
-    let start = c .before .before .before .before .before .before .before .before .before in
+    let start = Begun (c .before .before .before .before) in
     queue-room (start .pre) (here (c .before .before .before .before)) false (c .before .before .before .place-of .ensures) refl
-
-slice-aggregate-keep-2 : tie.Need-slice-aggregate-keep-2
-slice-aggregate-keep-2 c = search needs
 
 keep-requires-2 : tie.Need-keep-requires-2
 keep-requires-2 c κs =
-    let start = c .before .before .before .before .before .before .before .before .before .before .before .before .before in
-    queue-room (start .pre) (here (c .before .before .before .before .before .before .before .before)) true (c .before .before .before .before .before .before .before .place-of .ensures) refl
-
-slice-aggregate-keep-3 : tie.Need-slice-aggregate-keep-3
-slice-aggregate-keep-3 c = search needs
+    let recorded = Recorded (c .before .before) in
+    let start = Begun (recorded .before .before) in
+    queue-room (start .pre) (here (recorded .before .before)) true (recorded .before .place-of .ensures) refl
 
 keep-requires-3 : tie.Need-keep-requires-3
 keep-requires-3 c κs =
-    let start = c .before .before .before .before .before .before .before .before .before .before .before .before .before .before .before .before .before in
-    kept-room (start .pre) (c .before .before .before .before .before .before .before .before .before .before .first-made .ensures) refl
-
-place-requires : tie.Need-place-requires
-place-requires c κs =
-    let start = c .before .before .before .before .before .before .before .before .before .before .before .before .before .before .before .before .before .before .before .before .before .before in
-    (start .pre, none (c .before .before .before .before .before .before .before .before .before .before .before .before .before .before .before .before .before))
-
-slice-aggregate-put-back : tie.Need-slice-aggregate-put-back
-slice-aggregate-put-back c = omega (arith, c .before .before .before .before .before .before .before .before .before .before .before .before .before .before .before .before .before .before .before .before .before .before .before .bids2 .given)
+    let start = Begun (First-made (c .before .before .before) .before .before) in
+    kept-room (start .pre) (First-made (c .before .before .before) .first-made .ensures) refl
 
 put-back-requires : tie.Need-put-back-requires
 put-back-requires c κs =
-    let after = c .before .before .before .before .before .before .before .before .before .before .before .before .before .before .before .before .before .before .before .before .before .before .before in
-    let start = after .before .before .before .before .before .before .before .before .before .before .before in
-    omega (arith, after .bids2 .given, queue-room (start .pre) (here (after .before .before .before .before .before .before)) false (after .before .before .before .before .before .place-of .ensures) refl, c .before .before .before .before .before .before .before .before .before .before .before .place .ensures .buys-back (c .before .before .if2 .taken) .long)
-
-slice-aggregate-put-back-2 : tie.Need-slice-aggregate-put-back-2
-slice-aggregate-put-back-2 c = search needs
+    let after = Keep2 (Placed c .before) .before .before .before in
+    let start = Begun (Recorded after .before .before) in
+    omega (
+      arith,
+      after .bids2 .given,
+      queue-room (start .pre) (here (Recorded after .before .before)) false (Recorded after .before .place-of .ensures)
+          refl,
+      Placed c .place .ensures .buys-back (c .before .before .if2 .taken) .long,
+    )
 
 put-back-requires-2 : tie.Need-put-back-requires-2
 put-back-requires-2 c κs =
-    let after = c .before .before .before .before .before .before .before .before .before .before .before .before .before .before .before .before .before .before .before .before .before .before .before .before in
-    let start = after .before .before .before .before .before .before .before .before .before .before .before .before .before .before .before in
-    omega (arith, after .offers2 .given, queue-room (start .pre) (here (after .before .before .before .before .before .before .before .before .before .before)) true (after .before .before .before .before .before .before .before .before .before .place-of .ensures) refl, c .before .before .before .before .before .before .before .before .before .before .before .before .before .before .before .before .place .ensures .sells-back (c .before .before .before .before .before .before .before .if2 .taken) .long)
-
-slice-aggregate-put-back-3 : tie.Need-slice-aggregate-put-back-3
-slice-aggregate-put-back-3 c = search needs
+    let after = Keep3 (Put-back c) .before .before .before in
+    let start = Begun (First-made (after .before) .before .before) in
+    omega (
+      arith,
+      after .offers2 .given,
+      queue-room (start .pre) (here (First-made (after .before) .before .before)) true
+          (First-made (after .before) .before .place-of .ensures) refl,
+      Placed (Put-back c .before) .place .ensures .sells-back (Put-back c .before .before .before .if2 .taken) .long,
+    )
 
 put-back-requires-3 : tie.Need-put-back-requires-3
 put-back-requires-3 c κs =
-    let after = c .before .before .before .before .before .before .before .before .before .before .before .before .before .before .before .before .before .before .before .before .before in
-    let start = after .before .before .before .before .before .before .before .before .before .before .before .before .before .before .before .before .before .before .before .before .before .before .before in
-    omega (arith, after .before .before .before .before .made2 .given, kept-room (start .pre) (after .before .before .before .before .before .before .before .before .before .before .before .before .before .before .before .before .first-made .ensures) refl, after .place .ensures .trades-back (c .before .before .before .before .before .before .before .before .before .before .before .before .if2 .taken) .long)
-
-same-length : tie.Need-same-length
-same-length c = search needs
-
-same-length-2 : tie.Need-same-length-2
-same-length-2 c = search needs
-
-same-length-3 : tie.Need-same-length-3
-same-length-3 c = search needs
+    let after = Placed (Put-back (Put-back2 c .before) .before) in
+    let start = Begun (First-made (Keep2 (after .before)) .before .before) in
+    omega (
+      arith,
+      after .before .before .before .before .made2 .given,
+      kept-room (start .pre) (First-made (Keep2 (after .before)) .first-made .ensures)
+          refl,
+      after .place .ensures .trades-back (Put-back (Put-back2 c .before) .before .before .before .if2 .taken) .long,
+    )
 
 returns-2 : tie.Need-returns-2
 returns-2 c =
@@ -126,50 +137,41 @@ returns-2 c =
     let some = c .before .before .before .before .before .before .before .before .before .before .before .before .before .before .before .if2 .taken in
     let queue = after .before .before .before .before .before .before .before .before .before .before .before .before .before .before .before .before .before .place-of .ensures in
     quote-undone placed some
-    (undone (placed .buys-back some) (rw queue refl) refl (after .before .before .before .before .before .before .before .before .before .before .before .before .before .keep .ensures) (c .before .before .before .before .before .before .before .before .before .before .before .before .put-back .ensures))
-    (undone (placed .sells-back some) (rw queue refl) refl (after .before .before .before .before .before .before .before .before .before .keep2 .ensures) (c .before .before .before .before .before .before .before .put-back2 .ensures))
-    (undone (placed .trades-back some) (after .before .before .before .before .before .before .before .before .before .before .before .before .before .before .before .before .first-made .ensures) refl (after .before .before .before .before .before .keep3 .ensures) (c .before .before .put-back3 .ensures))
-
-same-length-4 : tie.Need-same-length-4
-same-length-4 c = search needs
-
-same-length-5 : tie.Need-same-length-5
-same-length-5 c = search needs
-
-same-length-6 : tie.Need-same-length-6
-same-length-6 c = search needs
-
-returns-3 : tie.Need-returns-3
-returns-3 c = c .before .before .before .before .before .before .before .before .before .place .ensures .accepted (c .if2 .left)
+    (undone (placed .buys-back some) (rw queue refl) refl
+    (after .before .before .before .before .before .before .before .before .before .before .before .before .before .keep .ensures)
+    (c .before .before .before .before .before .before .before .before .before .before .before .before .put-back .ensures))
+    (undone (placed .sells-back some) (rw queue refl) refl (after .before .before .before .before .before .before .before .before .before .keep2 .ensures)
+    (c .before .before .before .before .before .before .before .put-back2 .ensures))
+    (undone (placed .trades-back some)
+    (after .before .before .before .before .before .before .before .before .before .before .before .before .before .before .before .before .first-made .ensures)
+    refl (after .before .before .before .before .before .keep3 .ensures) (c .before .before .put-back3 .ensures))
 
 pub trade-spec : {M : Type 1} → statement M
-trade-spec =
-    tie.close
-    (tie.spec
-    early-code-requires
-    refused-requires
+trade-spec = tie.close (tie.spec
+    (λ c κs. let start = c .before .before .before in (formed (start .pre) .contracts-high, formed (start .pre) .accounts-high))  -- early-code-requires
+    (λ c κs. search needs)  -- refused-requires
     returns
-    place-of-requires
-    mul-queue
-    first-made-requires
-    slice-aggregate-keep
+    (λ c κs. let start = Begun c in contract-low (start .pre) _ _ (named c))  -- place-of-requires
+    (λ c. search needs)  -- mul-queue
+    (λ c κs. let start = Begun (c .before) in formed (start .pre) .trades-high)  -- first-made-requires
+    (λ c. search needs)  -- slice-aggregate-keep
     keep-requires
-    slice-aggregate-keep-2
+    (λ c. search needs)  -- slice-aggregate-keep-2
     keep-requires-2
-    slice-aggregate-keep-3
+    (λ c. search needs)  -- slice-aggregate-keep-3
     keep-requires-3
-    place-requires
-    slice-aggregate-put-back
+    (λ c κs. let start = Begun (First-made (Keep2 c) .before .before) in (start .pre, none (First-made (Keep2 c) .before .before)))  -- place-requires
+    (λ c. omega (arith, Keep2 (Placed c .before) .before .before .before .bids2 .given))  -- slice-aggregate-put-back
     put-back-requires
-    slice-aggregate-put-back-2
+    (λ c. search needs)  -- slice-aggregate-put-back-2
     put-back-requires-2
-    slice-aggregate-put-back-3
+    (λ c. search needs)  -- slice-aggregate-put-back-3
     put-back-requires-3
-    same-length
-    same-length-2
-    same-length-3
+    (λ c. search needs)  -- same-length
+    (λ c. search needs)  -- same-length-2
+    (λ c. search needs)  -- same-length-3
     returns-2
-    same-length-4
-    same-length-5
-    same-length-6
-    returns-3)
+    (λ c. search needs)  -- same-length-4
+    (λ c. search needs)  -- same-length-5
+    (λ c. search needs)  -- same-length-6
+    (λ c. Place c .place .ensures .accepted (c .if2 .left)))  -- returns-3

@@ -49,45 +49,15 @@ given c =
 formed-is : (c : tie.Else3) → wellFormedMemory (inSpare (c .before .before .loaded-state .result)) ≡ true
 formed-is c = passed (c .before .is-formed .ensures) (c .if3 .left)
 
-is-shaped-requires : tie.Need-is-shaped-requires
-is-shaped-requires c κs = search needs
-
-returns : tie.Need-returns
-returns c = misshapen-20 _ _ (refused (c .before .is-shaped .ensures) (c .if1 .taken))
-
-contract-count-requires : tie.Need-contract-count-requires
-contract-count-requires c κs = shaped-long _ (shape-is c)
-
-account-count-requires : tie.Need-account-count-requires
-account-count-requires c κs = count-ready _ _ (c .contract-count .ensures) (shape-is (c .before))
-
-marks-sound-requires : tie.Need-marks-sound-requires
-marks-sound-requires c κs = laid c
-
 returns-2 : tie.Need-returns-2
 returns-2 c =
     let counted = c .before .before in
     marks-20 _ _ (shape-is (counted .before .before)) (laid counted) (refused (c .before .marks-sound .ensures) (c .if2 .taken))
 
-loaded-state-requires : tie.Need-loaded-state-requires
-loaded-state-requires c κs = laid (c .before .before)
-
-is-formed-requires : tie.Need-is-formed-requires
-is-formed-requires c κs = search needs
-
-returns-3 : tie.Need-returns-3
-returns-3 c = formed-20 (given (c .before .before)) (refused (c .before .is-formed .ensures) (c .if3 .taken))
-
-all-equal-requires : tie.Need-all-equal-requires
-all-equal-requires c κs = let l = laid (Counted (c .before .before .before)) in (l .few-accounts, l .few-contracts)
-
 returns-4 : tie.Need-returns-4
 returns-4 c =
     let formed = c .before .before .before in
     totals-30 (given (formed .before .before)) (formed-is formed) (refused (c .before .all-equal .ensures) (c .if4 .taken))
-
-has-room-requires : tie.Need-has-room-requires
-has-room-requires c κs = counts-are (given (Formed c .before .before))
 
 returns-5 : tie.Need-returns-5
 returns-5 c =
@@ -102,20 +72,18 @@ returns-6 c =
     (passed (c .before .has-room .ensures) (c .if5 .left))
 
 pub read-state-spec : {M : Type 1} → statement M
-read-state-spec =
-    tie.close
-    (tie.spec
-    is-shaped-requires
-    returns
-    contract-count-requires
-    account-count-requires
-    marks-sound-requires
+read-state-spec = tie.close (tie.spec
+    (λ c κs. search needs)  -- is-shaped-requires
+    (λ c. misshapen-20 _ _ (refused (c .before .is-shaped .ensures) (c .if1 .taken)))  -- returns
+    (λ c κs. shaped-long _ (shape-is c))  -- contract-count-requires
+    (λ c κs. count-ready _ _ (c .contract-count .ensures) (shape-is (c .before)))  -- account-count-requires
+    (λ c κs. laid c)  -- marks-sound-requires
     returns-2
-    loaded-state-requires
-    is-formed-requires
-    returns-3
-    all-equal-requires
+    (λ c κs. laid (c .before .before))  -- loaded-state-requires
+    (λ c κs. search needs)  -- is-formed-requires
+    (λ c. formed-20 (given (c .before .before)) (refused (c .before .is-formed .ensures) (c .if3 .taken)))  -- returns-3
+    (λ c κs. let l = laid (Counted (c .before .before .before)) in (l .few-accounts, l .few-contracts))  -- all-equal-requires
     returns-4
-    has-room-requires
+    (λ c κs. counts-are (given (Formed c .before .before)))  -- has-room-requires
     returns-5
     returns-6)

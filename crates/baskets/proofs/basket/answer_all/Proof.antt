@@ -19,69 +19,56 @@ Inv-loop buys₀ sells₀ trades₀ count answers₀ commands current₀ k₀ bu
 abbrev μ-loop : tie.MeasureT-loop
 μ-loop buys₀ sells₀ trades₀ count answers₀ commands current₀ k₀ buys sells trades answers current k = count - k
 
+-- back to the start
+abbrev Begun : tie.At-loop Inv-loop μ-loop → tie.Start Inv-loop μ-loop
+Begun c = c .before .before .before .before .before
+
+-- back to the turn's begin
+abbrev Turn : tie.After-answer-command-arg4 Inv-loop μ-loop → tie.In-loop Inv-loop μ-loop
+Turn c = c .before .before .before .before .before
+
+-- back to the call of `answer-command`
+abbrev Answer-command : tie.After-slice-known8 Inv-loop μ-loop → tie.After-answer-command Inv-loop μ-loop
+Answer-command c = c .before .before .before .before .before .before .before .before
+
 -- the array's places are those of its type
 hundred : (c : tie.Start Inv-loop μ-loop) → length (c .args .t5) ≡ 100
 hundred c = search (needs, unmapped)
 
-loop-holds : tie.Need-loop-holds Inv-loop μ-loop
-loop-holds c = answering-none _ _ _ _
-
-mul-command : tie.Need-mul-command Inv-loop μ-loop
-mul-command c = search needs
-
-array-copy-out-command : tie.Need-array-copy-out-command Inv-loop μ-loop
-array-copy-out-command c = omega (arith, c .before .before .before .before .before .before .pre .1)
-
 answer-command-requires : tie.Need-answer-command-requires Inv-loop μ-loop
 answer-command-requires c κs =
-    let turn = c .before .before .before .before .before .before in
-    (still-known (turn .loop .inv) true (turn .before .before .before .before .before .pre .0), omega (arith, turn .before .before .before .before .before .pre .2, turn .loop .inv .answers))
+    let turn = Turn c .before in
+    (still-known (turn .loop .inv) true (Begun turn .pre .0), omega (arith, Begun turn .pre .2, turn .loop .inv .answers))
 
 add-k : tie.Need-add-k Inv-loop μ-loop
-add-k c = record { fits = omega (arith, c .before .before .before .before .before .before .before .before .before .before .before .before .before .before .before .before .before .before .before .before .fits, c .before .before .before .before .before .before .before .before .before .before .before .before .before .before .before .before .before .before .before .before .pre .1) }
-
-loop-less : tie.Need-loop-less Inv-loop μ-loop
-loop-less c = omega arith
+add-k c =
+    record {
+      fits = omega
+          (arith, c .before .before .before .before .before .before .before .before .before .before .before .before .before .before .before .before .before .before .before .before .fits, c .before .before .before .before .before .before .before .before .before .before .before .before .before .before .before .before .before .before .before .before .pre .1);
+    }
 
 loop-again : tie.Need-loop-again Inv-loop μ-loop
 loop-again c =
-    let answer = c .before .before .before .before .before .before .before .before in
-    let turn = answer .before .before .before .before .before .before .before in
-    let start = turn .before .before .before .before .before in
+    let answer = Answer-command c in
+    let turn = Turn (answer .before) .before in
+    let start = Begun turn in
     let kept = answer .answer-command .kept .1 .1 in
-    answering-more (turn .loop .inv) (answer .before .before .before .before .before .before .loop-test .taken) (omega (arith, start .pre .1, hundred start)) refl
+    answering-more (turn .loop .inv) (Turn (answer .before) .loop-test .taken) (omega (arith, start .pre .1, hundred start)) refl
     (answer .answer-command .ensures .0) (answer .answer-command .ensures .1) (kept .0) (kept .1 .0) (kept .1 .1 .0) (kept .1 .1 .1 .1 .0)
 
-same-length : tie.Need-same-length Inv-loop μ-loop
-same-length c = search needs
-
-same-length-2 : tie.Need-same-length-2 Inv-loop μ-loop
-same-length-2 c = search needs
-
-same-length-3 : tie.Need-same-length-3 Inv-loop μ-loop
-same-length-3 c = search needs
-
-same-length-4 : tie.Need-same-length-4 Inv-loop μ-loop
-same-length-4 c = search needs
-
-returns : tie.Need-returns Inv-loop μ-loop
-returns c = answering-done (c .before .loop .inv) (omega arith)
-
 pub answer-all-spec : {M : Type 1} → statement M
-answer-all-spec =
-    tie.close
-    (tie.spec
+answer-all-spec = tie.close (tie.spec
     Inv-loop
     μ-loop
-    loop-holds
-    mul-command
-    array-copy-out-command
+    (λ c. answering-none _ _ _ _)  -- loop-holds
+    (λ c. search needs)  -- mul-command
+    (λ c. omega (arith, Begun (c .before) .pre .1))  -- array-copy-out-command
     answer-command-requires
     add-k
-    loop-less
+    (λ c. omega arith)  -- loop-less
     loop-again
-    same-length
-    same-length-2
-    same-length-3
-    same-length-4
-    returns)
+    (λ c. search needs)  -- same-length
+    (λ c. search needs)  -- same-length-2
+    (λ c. search needs)  -- same-length-3
+    (λ c. search needs)  -- same-length-4
+    (λ c. answering-done (c .before .loop .inv) (omega arith)))  -- returns

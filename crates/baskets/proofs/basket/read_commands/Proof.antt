@@ -23,52 +23,23 @@ Inv-loop bytes count commands₀ k₀ commands k = Writing (λ i. commandFrom by
 abbrev μ-loop : tie.MeasureT-loop
 μ-loop bytes count commands₀ k₀ commands k = count - k
 
-loop-holds : tie.Need-loop-holds Inv-loop μ-loop
-loop-holds c = writing-none _ _ _
-
-mul-record-at : tie.Need-mul-record-at Inv-loop μ-loop
-mul-record-at c = omega arith
-
-record-at-requires : tie.Need-record-at-requires Inv-loop μ-loop
-record-at-requires c κs = omega arith
-
-command-of-requires : tie.Need-command-of-requires Inv-loop μ-loop
-command-of-requires c κs = search needs
-
-mul-commands : tie.Need-mul-commands Inv-loop μ-loop
-mul-commands c = omega arith
-
-array-set-from-commands : tie.Need-array-set-from-commands Inv-loop μ-loop
-array-set-from-commands c = omega arith
-
-add-k : tie.Need-add-k Inv-loop μ-loop
-add-k c = omega arith
-
-loop-less : tie.Need-loop-less Inv-loop μ-loop
-loop-less c = omega arith
-
 loop-again : tie.Need-loop-again Inv-loop μ-loop
 loop-again c =
     let turn = c .before .before in
     writing-more _ _ _ (omega (arith, length-replicate 100 Malformed)) _ _ _ (turn .loop-test .taken)
     (c .command-of .ensures ∙ ap commandOf (c .before .record-at .ensures)) (turn .before .loop .inv)
 
-returns : tie.Need-returns Inv-loop μ-loop
-returns c = writing-done _ _ _ _ _ (omega arith) (c .before .loop .inv)
-
 pub read-commands-spec : {M : Type 1} → statement M
-read-commands-spec =
-    tie.close
-    (tie.spec
+read-commands-spec = tie.close (tie.spec
     Inv-loop
     μ-loop
-    loop-holds
-    mul-record-at
-    record-at-requires
-    command-of-requires
-    mul-commands
-    array-set-from-commands
-    add-k
-    loop-less
+    (λ c. writing-none _ _ _)  -- loop-holds
+    (λ c. omega arith)  -- mul-record-at
+    (λ c κs. omega arith)  -- record-at-requires
+    (λ c κs. search needs)  -- command-of-requires
+    (λ c. omega arith)  -- mul-commands
+    (λ c. omega arith)  -- array-set-from-commands
+    (λ c. omega arith)  -- add-k
+    (λ c. omega arith)  -- loop-less
     loop-again
-    returns)
+    (λ c. writing-done _ _ _ _ _ (omega arith) (c .before .loop .inv)))  -- returns

@@ -10,8 +10,12 @@ use Rattle.baskets.proofs.Bundles.{no-refusal, not-well-formed, over-ma
 use Rattle.baskets.proofs.basket.refusal.Statement.{statement}
 use Rattle.baskets.proofs.basket.refusal.Tie as tie
 
+-- back to the start
+abbrev Begun : tie.Else1 → tie.Start
+Begun c = c .before .before .before .before .before
+
 -- the test passed
-sound : (c : tie.Else1) → wellFormedMemory (memory (c .before .before .before .before .before .args .state) (now (c .before .before .before .before .before .args .buys)) (now (c .before .before .before .before .before .args .sells)) (now (c .before .before .before .before .before .args .trades))) ≡ true
+sound : (c : tie.Else1) → wellFormedMemory (memory (Begun c .args .state) (now (Begun c .args .buys)) (now (Begun c .args .sells)) (now (Begun c .args .trades))) ≡ true
 sound c = sym (c .before .well-formed .ensures) ∙ not-false (c .before .well-formed .result) (c .if1 .left)
 
 well-formed-requires : tie.Need-well-formed-requires

@@ -17,9 +17,7 @@ returns c =
     same-bundle _ _ _ _ _ (read-bundle _ (read .before .fewer .ensures) (read .read-commands .ensures) refl) (submitted .submit .ensures)
 
 pub submit-bytes-spec : {M : Type 1} → statement M
-submit-bytes-spec =
-    tie.close
-    (tie.spec
+submit-bytes-spec = tie.close (tie.spec
     (λ c κs. search needs)  -- fewer-requires
     (λ c κs. search needs)  -- read-commands-requires
     (λ c κs. search needs)  -- submit-requires

@@ -18,71 +18,52 @@ Inv-loop formed buys₀ sells₀ trades₀ bytes count answers₀ current₀ k�
 abbrev μ-loop : tie.MeasureT-loop
 μ-loop formed buys₀ sells₀ trades₀ bytes count answers₀ current₀ k₀ buys sells trades answers current k = count - k
 
-loop-holds : tie.Need-loop-holds Inv-loop μ-loop
-loop-holds c = answering-none _ _ _ _
+-- back to the start
+abbrev Begun : tie.At-loop Inv-loop μ-loop → tie.Start Inv-loop μ-loop
+Begun c = c .before .before .before .before .before .before
 
-mul-record-at : tie.Need-mul-record-at Inv-loop μ-loop
-mul-record-at c = omega arith
+-- back to the loop's head
+abbrev Head : tie.After-slice-known8 Inv-loop μ-loop → tie.At-loop Inv-loop μ-loop
+Head c = c .before .before .before .before .before .before .before .before .before .before .before .before .before .before .before .before
 
-record-at-requires : tie.Need-record-at-requires Inv-loop μ-loop
-record-at-requires c κs = omega arith
+-- back to the call whose answer is `command`
+abbrev Command : tie.After-answer-command-arg4 Inv-loop μ-loop → tie.After-command-of Inv-loop μ-loop
+Command c = c .before .before .before .before
 
-command-of-requires : tie.Need-command-of-requires Inv-loop μ-loop
-command-of-requires c κs = search needs
+-- back to the call of `answer-command`
+abbrev Answer-command : tie.After-slice-known8 Inv-loop μ-loop → tie.After-answer-command Inv-loop μ-loop
+Answer-command c = c .before .before .before .before .before .before .before .before
 
 answer-command-requires : tie.Need-answer-command-requires Inv-loop μ-loop
 answer-command-requires c κs =
-    let turn = c .before .before .before .before .before .before .before in
-    (still-known (turn .loop .inv) _ (turn .before .before .before .before .before .before .pre .0), omega (arith, turn .before .before .before .before .before .before .pre .2, turn .loop .inv .answers))
-
-add-k : tie.Need-add-k Inv-loop μ-loop
-add-k c = record { fits = omega (arith, c .before .before .before .before .before .before .before .before .before .before .before .before .before .before .before .before .before .before .before .before .before .before .fits, c .before .before .before .before .before .before .before .before .before .before .before .before .before .before .before .before .before .before .before .before .before .before .pre .1) }
-
-loop-less : tie.Need-loop-less Inv-loop μ-loop
-loop-less c = omega arith
+    let turn = Command c .before .before .before in
+    (still-known (turn .loop .inv) _ (Begun turn .pre .0), omega (arith, Begun turn .pre .2, turn .loop .inv .answers))
 
 loop-again : tie.Need-loop-again Inv-loop μ-loop
 loop-again c =
-    let answer = c .before .before .before .before .before .before .before .before in
-    let command = answer .before .before .before .before .before in
+    let answer = Answer-command c in
+    let command = Command (answer .before) in
     let turn = command .before .before .before in
     let here = command .before .before .loop-test .taken in
     let kept = answer .answer-command .kept .1 .1 in
-    answering-more (turn .loop .inv) here (omega (arith, length-first (turn .before .before .before .before .before .before .args .bytes .now) (turn .before .before .before .before .before .before .args .count)))
+    answering-more (turn .loop .inv) here (omega (arith, length-first (Begun turn .args .bytes .now) (Begun turn .args .count)))
     (command-at _ _ _ here ∙ sym (command .command-of .ensures ∙ ap commandOf (command .before .record-at .ensures)))
     (answer .answer-command .ensures .0) (answer .answer-command .ensures .1) (kept .0) (kept .1 .0) (kept .1 .1 .0) (kept .1 .1 .1 .1 .0)
 
-same-length : tie.Need-same-length Inv-loop μ-loop
-same-length c = search needs
-
-same-length-2 : tie.Need-same-length-2 Inv-loop μ-loop
-same-length-2 c = search needs
-
-same-length-3 : tie.Need-same-length-3 Inv-loop μ-loop
-same-length-3 c = search needs
-
-same-length-4 : tie.Need-same-length-4 Inv-loop μ-loop
-same-length-4 c = search needs
-
-returns : tie.Need-returns Inv-loop μ-loop
-returns c = all-first _ _ (c .before .loop .inv) (omega arith)
-
 pub answer-records-spec : {M : Type 1} → statement M
-answer-records-spec =
-    tie.close
-    (tie.spec
+answer-records-spec = tie.close (tie.spec
     Inv-loop
     μ-loop
-    loop-holds
-    mul-record-at
-    record-at-requires
-    command-of-requires
+    (λ c. answering-none _ _ _ _)  -- loop-holds
+    (λ c. omega arith)  -- mul-record-at
+    (λ c κs. omega arith)  -- record-at-requires
+    (λ c κs. search needs)  -- command-of-requires
     answer-command-requires
-    add-k
-    loop-less
+    (λ c. record { fits = omega (arith, Begun (Head c) .fits, Begun (Head c) .pre .1) })  -- add-k
+    (λ c. omega arith)  -- loop-less
     loop-again
-    same-length
-    same-length-2
-    same-length-3
-    same-length-4
-    returns)
+    (λ c. search needs)  -- same-length
+    (λ c. search needs)  -- same-length-2
+    (λ c. search needs)  -- same-length-3
+    (λ c. search needs)  -- same-length-4
+    (λ c. all-first _ _ (c .before .loop .inv) (omega arith)))  -- returns

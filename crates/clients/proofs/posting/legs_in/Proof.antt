@@ -6,17 +6,9 @@ use Rattle.clients.proofs.Postings.{legs-counted}
 use Rattle.clients.proofs.posting.legs_in.Statement.{statement}
 use Rattle.clients.proofs.posting.legs_in.Tie as tie
 
-returns : tie.Need-returns
-returns c = (legs-counted _ true true (lt-ltb _ _ (c .before .before .if1 .taken)) (lt-ltb _ _ (c .if2 .taken)), omega arith)
-
-returns-2 : tie.Need-returns-2
-returns-2 c = (legs-counted _ true false (lt-ltb _ _ (c .before .before .if1 .taken)) (le-ltb _ _ (c .if2 .left)), omega arith)
-
-returns-3 : tie.Need-returns-3
-returns-3 c = (legs-counted _ false true (le-ltb _ _ (c .before .before .if1 .left)) (lt-ltb _ _ (c .if3 .taken)), omega arith)
-
-returns-4 : tie.Need-returns-4
-returns-4 c = (legs-counted _ false false (le-ltb _ _ (c .before .before .if1 .left)) (le-ltb _ _ (c .if3 .left)), omega arith)
-
 pub legs-in-spec : {M : Type 1} → statement M
-legs-in-spec = tie.close (tie.spec returns returns-2 returns-3 returns-4)
+legs-in-spec = tie.close (tie.spec
+    (λ c. (legs-counted _ true true (lt-ltb _ _ (c .before .before .if1 .taken)) (lt-ltb _ _ (c .if2 .taken)), omega arith))  -- returns
+    (λ c. (legs-counted _ true false (lt-ltb _ _ (c .before .before .if1 .taken)) (le-ltb _ _ (c .if2 .left)), omega arith))  -- returns-2
+    (λ c. (legs-counted _ false true (le-ltb _ _ (c .before .before .if1 .left)) (lt-ltb _ _ (c .if3 .taken)), omega arith))  -- returns-3
+    (λ c. (legs-counted _ false false (le-ltb _ _ (c .before .before .if1 .left)) (le-ltb _ _ (c .if3 .left)), omega arith)))  -- returns-4

@@ -13,73 +13,49 @@ Inv-loop starts clients contracts holdings c₀ c = Tested starts clients holdin
 abbrev μ-loop : tie.MeasureT-loop
 μ-loop starts clients contracts holdings c₀ c = contracts - c
 
-loop-holds : tie.Need-loop-holds Inv-loop μ-loop
-loop-holds c = tested-none _ _ _ _
+-- back to the turn's begin
+abbrev Turn : tie.After-wide642 Inv-loop μ-loop → tie.In-loop Inv-loop μ-loop
+Turn c = c .before .before .before
 
-mul-h : tie.Need-mul-h Inv-loop μ-loop
-mul-h c = omega arith
-
-array-copy-out-h : tie.Need-array-copy-out-h Inv-loop μ-loop
-array-copy-out-h c = omega arith
-
-wide64-requires : tie.Need-wide64-requires Inv-loop μ-loop
-wide64-requires c κs = search needs
-
-wide64-requires-2 : tie.Need-wide64-requires-2 Inv-loop μ-loop
-wide64-requires-2 c κs = search needs
-
-mul-sum : tie.Need-mul-sum Inv-loop μ-loop
-mul-sum c = omega arith
-
-sum-requires : tie.Need-sum-requires Inv-loop μ-loop
-sum-requires c κs = (omega arith, c .before .before .before .before .before .before .pre .0)
+-- back to the call whose answer is `long`
+abbrev Long : tie.After-sum2 Inv-loop μ-loop → tie.After-wide64 Inv-loop μ-loop
+Long c = c .before .before .before .before
 
 returns : tie.Need-returns Inv-loop μ-loop
-returns c = long-differs _ _ _ _ _ (c .before .before .before .before .before .before .loop .inv) (c .before .before .before .before .before .loop-test .taken) _ refl _ _ (c .before .sum .ensures) (c .before .before .before .wide64 .ensures) (c .if1 .taken)
-
-mul-sum-2 : tie.Need-mul-sum-2 Inv-loop μ-loop
-mul-sum-2 c = omega arith
-
-add-sum : tie.Need-add-sum Inv-loop μ-loop
-add-sum c = omega arith
-
-sum-requires-2 : tie.Need-sum-requires-2 Inv-loop μ-loop
-sum-requires-2 c κs = (omega arith, c .before .before .before .before .before .before .before .before .pre .0)
+returns c =
+    long-differs _ _ _ _ _ (Turn (c .before .before) .before .loop .inv) (Turn (c .before .before) .loop-test .taken) _ refl _ _
+    (c .before .sum .ensures) (c .before .before .before .wide64 .ensures) (c .if1 .taken)
 
 returns-2 : tie.Need-returns-2 Inv-loop μ-loop
-returns-2 c = short-differs _ _ _ _ _ (c .before .before .before .before .before .before .before .before .loop .inv) (c .before .before .before .before .before .before .before .loop-test .taken) _ refl _ _ (c .before .before .before .sum .ensures) (c .before .before .before .before .before .wide64 .ensures) (c .before .before .if1 .left) _ _ (c .before .sum2 .ensures) (c .before .before .before .before .wide642 .ensures) (c .if2 .taken)
-
-add-c : tie.Need-add-c Inv-loop μ-loop
-add-c c = omega arith
-
-loop-less : tie.Need-loop-less Inv-loop μ-loop
-loop-less c = omega arith
+returns-2 c =
+    let long = Long (c .before) in
+    short-differs _ _ _ _ _ (long .before .before .before .loop .inv) (long .before .before .loop-test .taken) _ refl _ _
+    (c .before .before .before .sum .ensures) (long .wide64 .ensures) (c .before .before .if1 .left) _ _ (c .before .sum2 .ensures)
+    (c .before .before .before .before .wide642 .ensures) (c .if2 .taken)
 
 loop-again : tie.Need-loop-again Inv-loop μ-loop
-loop-again c = tested-more _ _ _ _ _ (c .before .before .before .before .before .before .before .before .loop .inv) (c .before .before .before .before .before .before .before .loop-test .taken) _ refl _ _ (c .before .before .before .sum .ensures) (c .before .before .before .before .before .wide64 .ensures) (c .before .before .if1 .left) _ _ (c .before .sum2 .ensures) (c .before .before .before .before .wide642 .ensures) (c .if2 .left)
-
-returns-3 : tie.Need-returns-3 Inv-loop μ-loop
-returns-3 c = tested-done _ _ _ _ _ (c .loop-test .left) (c .before .loop .inv)
+loop-again c =
+    let long = Long (c .before) in
+    tested-more _ _ _ _ _ (long .before .before .before .loop .inv) (long .before .before .loop-test .taken) _ refl _ _
+    (c .before .before .before .sum .ensures) (long .wide64 .ensures) (c .before .before .if1 .left) _ _ (c .before .sum2 .ensures) (c .before .before .before .before .wide642 .ensures) (c .if2 .left)
 
 pub add-up-spec : {M : Type 1} → statement M
-add-up-spec =
-    tie.close
-    (tie.spec
+add-up-spec = tie.close (tie.spec
     Inv-loop
     μ-loop
-    loop-holds
-    mul-h
-    array-copy-out-h
-    wide64-requires
-    wide64-requires-2
-    mul-sum
-    sum-requires
+    (λ c. tested-none _ _ _ _)  -- loop-holds
+    (λ c. omega arith)  -- mul-h
+    (λ c. omega arith)  -- array-copy-out-h
+    (λ c κs. search needs)  -- wide64-requires
+    (λ c κs. search needs)  -- wide64-requires-2
+    (λ c. omega arith)  -- mul-sum
+    (λ c κs. (omega arith, Turn c .before .before .before .pre .0))  -- sum-requires
     returns
-    mul-sum-2
-    add-sum
-    sum-requires-2
+    (λ c. omega arith)  -- mul-sum-2
+    (λ c. omega arith)  -- add-sum
+    (λ c κs. (omega arith, Turn (c .before .before) .before .before .before .pre .0))  -- sum-requires-2
     returns-2
-    add-c
-    loop-less
+    (λ c. omega arith)  -- add-c
+    (λ c. omega arith)  -- loop-less
     loop-again
-    returns-3)
+    (λ c. tested-done _ _ _ _ _ (c .loop-test .left) (c .before .loop .inv)))  -- returns-3

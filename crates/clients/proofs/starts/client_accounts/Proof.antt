@@ -16,45 +16,19 @@ Inv-loop starts clients accounts₀ k₀ accounts k = Writing (clientAccount (cl
 abbrev μ-loop : tie.MeasureT-loop
 μ-loop starts clients accounts₀ k₀ accounts k = maxAccounts - k
 
-client-account-requires : tie.Need-client-account-requires Inv-loop μ-loop
-client-account-requires c κs = omega arith
-
-loop-holds : tie.Need-loop-holds Inv-loop μ-loop
-loop-holds c = writing-none _ _ _
-
-client-account-requires-2 : tie.Need-client-account-requires-2 Inv-loop μ-loop
-client-account-requires-2 c κs = omega arith
-
-mul-accounts : tie.Need-mul-accounts Inv-loop μ-loop
-mul-accounts c = omega arith
-
-array-set-from-accounts : tie.Need-array-set-from-accounts Inv-loop μ-loop
-array-set-from-accounts c = omega arith
-
-add-k : tie.Need-add-k Inv-loop μ-loop
-add-k c = omega arith
-
-loop-less : tie.Need-loop-less Inv-loop μ-loop
-loop-less c = omega arith
-
-loop-again : tie.Need-loop-again Inv-loop μ-loop
-loop-again c = writing-more _ _ _ (omega arith) _ _ _ (c .before .loop-test .taken) (c .client-account2 .ensures) (c .before .before .loop .inv)
-
 returns : tie.Need-returns Inv-loop μ-loop
 returns c = all-written _ _ _ maxAccounts _ (length-replicate maxAccounts (c .before .before .client-account .result)) (c .loop-test .left) (c .before .loop .inv)
 
 pub client-accounts-spec : {M : Type 1} → statement M
-client-accounts-spec =
-    tie.close
-    (tie.spec
+client-accounts-spec = tie.close (tie.spec
     Inv-loop
     μ-loop
-    client-account-requires
-    loop-holds
-    client-account-requires-2
-    mul-accounts
-    array-set-from-accounts
-    add-k
-    loop-less
-    loop-again
+    (λ c κs. omega arith)  -- client-account-requires
+    (λ c. writing-none _ _ _)  -- loop-holds
+    (λ c κs. omega arith)  -- client-account-requires-2
+    (λ c. omega arith)  -- mul-accounts
+    (λ c. omega arith)  -- array-set-from-accounts
+    (λ c. omega arith)  -- add-k
+    (λ c. omega arith)  -- loop-less
+    (λ c. writing-more _ _ _ (omega arith) _ _ _ (c .before .loop-test .taken) (c .client-account2 .ensures) (c .before .before .loop .inv))  -- loop-again
     returns)

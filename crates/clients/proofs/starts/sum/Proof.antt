@@ -14,49 +14,25 @@ Inv-loop starts first clients lots₀ k₀ lots k = Adding (λ k. getD starts (8
 abbrev μ-loop : tie.MeasureT-loop
 μ-loop starts first clients lots₀ k₀ lots k = clients - k
 
-loop-holds : tie.Need-loop-holds Inv-loop μ-loop
-loop-holds c = adding-none _ _
-
-mul-word-at : tie.Need-mul-word-at Inv-loop μ-loop
-mul-word-at c = omega arith
-
-add-word-at : tie.Need-add-word-at Inv-loop μ-loop
-add-word-at c = omega arith
-
-word-at-requires : tie.Need-word-at-requires Inv-loop μ-loop
-word-at-requires c κs = omega arith
-
-wide64-requires : tie.Need-wide64-requires Inv-loop μ-loop
-wide64-requires c κs = omega arith
-
 add-lots : tie.Need-add-lots Inv-loop μ-loop
 add-lots c = omega (arith, c .wide64 .ensures, c .before .word-at .ok, c .before .before .before .loop .inv .small, c .before .before .before .loop .inv .within)
 
-add-k : tie.Need-add-k Inv-loop μ-loop
-add-k c = omega arith
-
-loop-less : tie.Need-loop-less Inv-loop μ-loop
-loop-less c = omega arith
-
 loop-again : tie.Need-loop-again Inv-loop μ-loop
-loop-again c = adding-more _ _ _ _ _ (c .before .before .loop-test .taken) (c .wide64 .ensures ∙ c .before .word-at .ensures) (omega (arith, c .wide64 .ensures, c .before .word-at .ok)) (c .before .before .before .loop .inv)
-
-returns : tie.Need-returns Inv-loop μ-loop
-returns c = adding-done _ _ _ _ (c .loop-test .left) (c .before .loop .inv)
+loop-again c =
+    adding-more _ _ _ _ _ (c .before .before .loop-test .taken) (c .wide64 .ensures ∙ c .before .word-at .ensures)
+    (omega (arith, c .wide64 .ensures, c .before .word-at .ok)) (c .before .before .before .loop .inv)
 
 pub sum-spec : {M : Type 1} → statement M
-sum-spec =
-    tie.close
-    (tie.spec
+sum-spec = tie.close (tie.spec
     Inv-loop
     μ-loop
-    loop-holds
-    mul-word-at
-    add-word-at
-    word-at-requires
-    wide64-requires
+    (λ c. adding-none _ _)  -- loop-holds
+    (λ c. omega arith)  -- mul-word-at
+    (λ c. omega arith)  -- add-word-at
+    (λ c κs. omega arith)  -- word-at-requires
+    (λ c κs. omega arith)  -- wide64-requires
     add-lots
-    add-k
-    loop-less
+    (λ c. omega arith)  -- add-k
+    (λ c. omega arith)  -- loop-less
     loop-again
-    returns)
+    (λ c. adding-done _ _ _ _ (c .loop-test .left) (c .before .loop .inv)))  -- returns

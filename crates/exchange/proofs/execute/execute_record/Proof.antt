@@ -4,35 +4,16 @@ use Rattle.exchange.proofs.Responses.{executed-as}
 use Rattle.exchange.proofs.execute.execute_record.Statement.{statement}
 use Rattle.exchange.proofs.execute.execute_record.Tie as tie
 
-well-formed-requires : tie.Need-well-formed-requires
-well-formed-requires c κs = search needs
-
-command-of-requires : tie.Need-command-of-requires
-command-of-requires c κs = search needs
-
-respond-requires : tie.Need-respond-requires
-respond-requires c κs = search needs
-
-same-length : tie.Need-same-length
-same-length c = search needs
-
-same-length-2 : tie.Need-same-length-2
-same-length-2 c = search needs
-
-same-length-3 : tie.Need-same-length-3
-same-length-3 c = search needs
-
-returns : tie.Need-returns
-returns c = executed-as (c .before .before .before .before .before .before .before .before .before .before .command-of .ensures) (c .before .before .before .before .before .before .respond .ensures)
+-- back to the call of `respond`
+abbrev Respond : tie.After-slice-known6 → tie.After-respond
+Respond c = c .before .before .before .before .before .before
 
 pub execute-record-spec : {M : Type 1} → statement M
-execute-record-spec =
-    tie.close
-    (tie.spec
-    well-formed-requires
-    command-of-requires
-    respond-requires
-    same-length
-    same-length-2
-    same-length-3
-    returns)
+execute-record-spec = tie.close (tie.spec
+    (λ c κs. search needs)  -- well-formed-requires
+    (λ c κs. search needs)  -- command-of-requires
+    (λ c κs. search needs)  -- respond-requires
+    (λ c. search needs)  -- same-length
+    (λ c. search needs)  -- same-length-2
+    (λ c. search needs)  -- same-length-3
+    (λ c. executed-as (Respond c .before .before .before .before .command-of .ensures) (Respond c .respond .ensures)))  -- returns

@@ -29,9 +29,7 @@ returns-2 c =
     ran-is _ (declared (start (passed .before) .good .0)) _ (ran .run-through .ensures)
 
 pub run-spec : {M : Type 1} → statement M
-run-spec =
-    tie.close
-    (tie.spec
+run-spec = tie.close (tie.spec
     (λ c κs. search needs)
     (λ c. search needs) (λ c. search needs) (λ c. search needs)
     returns

@@ -61,7 +61,8 @@ loop-again c =
     let known = decided (c .before .before) in
     let here = turn known in (
       omega (arith, here .loop-test .taken),
-      running-on (here .before .loop .inv .1) (command known .command-of .ensures ∙ ap commandOf (command known .before .record-at .ensures)) (nothing-left (known .decide .ensures) (c .enum-told .given .1))
+      running-on (here .before .loop .inv .1) (command known .command-of .ensures ∙ ap commandOf (command known .before .record-at .ensures))
+          (nothing-left (known .decide .ensures) (c .enum-told .given .1))
           (known .decide .kept .1 .1 .0) (known .decide .kept .1 .1 .1 .0) refl,
     )
 
@@ -71,7 +72,8 @@ loop-again-2 c =
     let known = decided (told .before .before) in
     let here = turn known in (
       omega (arith, here .loop-test .taken),
-      running-on (here .before .loop .inv .1) (command known .command-of .ensures ∙ ap commandOf (command known .before .record-at .ensures)) (balance-left (known .decide .ensures) (told .update .given .1) (search (needs, c .before .known-told .given)))
+      running-on (here .before .loop .inv .1) (command known .command-of .ensures ∙ ap commandOf (command known .before .record-at .ensures))
+          (balance-left (known .decide .ensures) (told .update .given .1) (search (needs, c .before .known-told .given)))
           (known .decide .kept .1 .1 .0) (known .decide .kept .1 .1 .1 .0) refl,
     )
 
@@ -144,9 +146,7 @@ loop-again-4 c =
     )
 
 pub run-through-spec : {M : Type 1} → statement M
-run-through-spec =
-    tie.close
-    (tie.spec
+run-through-spec = tie.close (tie.spec
     Inv-loop
     μ-loop
     (λ c. (omega arith, running-none _ (c .before .before .before .before .pre)))  -- loop-holds

@@ -19,43 +19,15 @@ Inv-loop n contracts c₀ c = (c ≤ n) × (all (λ k. eqb (getD contracts k noC
 abbrev μ-loop : tie.MeasureT-loop
 μ-loop n contracts c₀ c = n - c
 
-loop-holds : tie.Need-loop-holds Inv-loop μ-loop
-loop-holds c = (omega arith, all-none _)
-
-mul-contract : tie.Need-mul-contract Inv-loop μ-loop
-mul-contract c = search needs
-
-array-copy-out-contract : tie.Need-array-copy-out-contract Inv-loop μ-loop
-array-copy-out-contract c = omega arith
-
-returns : tie.Need-returns Inv-loop μ-loop
-returns c = sym (all-stop _ _ _ (c .before .before .before .loop-test .taken) (ne-eqb _ _ (c .if1 .taken)))
-
-add-c : tie.Need-add-c Inv-loop μ-loop
-add-c c = omega arith
-
-loop-less : tie.Need-loop-less Inv-loop μ-loop
-loop-less c = omega arith
-
-loop-again : tie.Need-loop-again Inv-loop μ-loop
-loop-again c = (omega arith, all-more _ _ (c .before .before .before .before .loop .inv .1) (eq-eqb _ _ (c .if1 .left)))
-
-returns-2 : tie.Need-returns-2 Inv-loop μ-loop
-returns-2 c =
-    let e : c .before .loop .c ≡ c .before .before .args .n = omega arith in
-    rw (← e) (sym (c .before .loop .inv .1))
-
 pub all-closed-spec : {M : Type 1} → statement M
-all-closed-spec =
-    tie.close
-    (tie.spec
+all-closed-spec = tie.close (tie.spec
     Inv-loop
     μ-loop
-    loop-holds
-    mul-contract
-    array-copy-out-contract
-    returns
-    add-c
-    loop-less
-    loop-again
-    returns-2)
+    (λ c. (omega arith, all-none _))  -- loop-holds
+    (λ c. search needs)  -- mul-contract
+    (λ c. omega arith)  -- array-copy-out-contract
+    (λ c. sym (all-stop _ _ _ (c .before .before .before .loop-test .taken) (ne-eqb _ _ (c .if1 .taken))))  -- returns
+    (λ c. omega arith)  -- add-c
+    (λ c. omega arith)  -- loop-less
+    (λ c. (omega arith, all-more _ _ (c .before .before .before .before .loop .inv .1) (eq-eqb _ _ (c .if1 .left))))  -- loop-again
+    (λ c. let e : c .before .loop .c ≡ c .before .before .args .n = omega arith in rw (← e) (sym (c .before .loop .inv .1))))  -- returns-2

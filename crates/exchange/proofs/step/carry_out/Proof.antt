@@ -32,9 +32,7 @@ returns-2 c =
     done-as _ _ _ _ (called .before .before .pending2 .given .1) _ _ _ (done .leave-auction .ensures)
 
 pub carry-out-spec : {M : Type 1} → statement M
-carry-out-spec =
-    tie.close
-    (tie.spec
+carry-out-spec = tie.close (tie.spec
     (λ c. search needs) trade-requires
     (λ c. search needs) leave-auction-requires
     (λ c. search needs) (λ c. search needs) (λ c. search needs) returns

@@ -6,9 +6,7 @@ use Rattle.exchange.proofs.step.carry_whole.Statement.{statement}
 use Rattle.exchange.proofs.step.carry_whole.Tie as tie
 
 pub carry-whole-spec : {M : Type 1} → statement M
-carry-whole-spec =
-    tie.close
-    (tie.spec
+carry-whole-spec = tie.close (tie.spec
     (λ c. search needs) (λ c κs. search needs) (λ c κs. search needs)
     (λ c. search needs) (λ c κs. search needs)
     (λ c. search needs) (λ c. search needs) (λ c. search needs) (λ c. search (plain-left, c .before .before .before .before))

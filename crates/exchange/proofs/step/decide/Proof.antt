@@ -41,9 +41,7 @@ change-requires c κs =
     (start .pre .0, held-as (start .args .state) (told .command8 .given .1) (start .pre .1))
 
 pub decide-spec : {M : Type 1} → statement M
-decide-spec =
-    tie.close
-    (tie.spec
+decide-spec = tie.close (tie.spec
     (λ c. search needs) (λ c κs. search needs)
     (λ c. search needs) deposit-requires
     (λ c. search needs) withdraw-requires

@@ -7,7 +7,9 @@ use denote.Ref.{now}
 use lib.ListN.{length}
 use Rattle.rules.specs.Memory.{memory, stepIn}
 use Rattle.commands.specs.Accounts.{accountNumber}
-use Rattle.exchange.proofs.Decided.{Joined, place-fits, held-at, nothing-responded, balance-place, balance-responded, listing-answered, listing-joined, pending-answered, pending-joined, pending-ready, joined-responded, whole-ready, whole-responded}
+use Rattle.exchange.proofs.Decided.{Joined, place-fits, held-at, nothing-responded, balance-place, balance-responded, listing-answered}
+use Rattle.exchange.proofs.Decided.{listing-joined, pending-answered, pending-joined, pending-ready, joined-responded, whole-ready}
+use Rattle.exchange.proofs.Decided.{whole-responded}
 use Rattle.exchange.proofs.step.step.Statement.{statement}
 use Rattle.exchange.proofs.step.step.Tie as tie
 
@@ -39,7 +41,8 @@ decide-requires c κs =
 -- ---- where the contract is left to be written
 
 joined : (c : tie.At-match-came) → let first = begun (c .before) in
-    Joined (first .args .state) (now (first .args .buys)) (now (first .args .sells)) (now (first .args .trades)) (first .args .command) (c .match .next) (c .match .listed) (c .match .buys) (c .match .sells) (c .match .trades)
+    Joined (first .args .state) (now (first .args .buys)) (now (first .args .sells)) (now (first .args .trades)) (first .args .command)
+    (c .match .next) (c .match .listed) (c .match .buys) (c .match .sells) (c .match .trades)
 joined c =
     let known = decided (c .before) .decide .ensures in
     ⊎-elim
@@ -96,9 +99,7 @@ returns-3 c =
     whole-responded (decided (told .before .before) .decide .ensures) (told .update4 .given .1) (done .carry-whole .ensures)
 
 pub step-spec : {M : Type 1} → statement M
-step-spec =
-    tie.close
-    (tie.spec
+step-spec = tie.close (tie.spec
     (λ c κs. search needs)  -- account-place-requires
     (λ c. omega (arith, place-fits (start c .pre) (accountNumber (start c .args .command)) (c .account-place .ensures)))  -- mul-who
     (λ c. place-fits (start c .pre) (accountNumber (start c .args .command)) (c .account-place .ensures))  -- element-copy-out-who

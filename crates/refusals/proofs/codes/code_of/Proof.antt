@@ -29,11 +29,6 @@ here c = present (start c .pre .0) (start c .args .o) (account-there (c .before 
 
 -- ---- the needs
 
-returns : tie.Need-returns
-returns c =
-    let first = begun (c .before) in
-    code-account (first .pre .0) (first .args .o) (sym (c .before .is-absent .ensures) ∙ c .if1 .taken)
-
 returns-2 : tie.Need-returns-2
 returns-2 c =
     let there = c .before .before in
@@ -68,11 +63,9 @@ returns-4 c =
     (not-false (tested .takes-orders .result) (c .before .if3 .left)) (c .order-code .ensures)
 
 pub code-of-spec : {M : Type 1} → statement M
-code-of-spec =
-    tie.close
-    (tie.spec
+code-of-spec = tie.close (tie.spec
     (λ c κs. search needs)
-    returns
+    (λ c. let first = begun (c .before) in code-account (first .pre .0) (first .args .o) (sym (c .before .is-absent .ensures) ∙ c .if1 .taken))  -- returns
     (λ c κs. search needs)
     returns-2
     (λ c κs. here c .contract-low)  -- place-of-requires

@@ -30,9 +30,6 @@ fields c =
     let start = Begun c in
     fields-are (start .pre .0) (start .args .o) (start .pre .1) (Named c .place-of .ensures) (c .before .conditions-refused .ensures) (c .fields-code .ensures)
 
-place-of-requires : tie.Need-place-of-requires
-place-of-requires c κs = c .before .before .before .pre .1 .contract-low
-
 array-copy-out-terms : tie.Need-array-copy-out-terms
 array-copy-out-terms c =
     let named = c .before in
@@ -44,11 +41,6 @@ fields-code-requires c κs =
     let named = c .before .before .before in
     let start = named .before .before .before .before in
     terms-in-range (start .pre .0) (start .args .o) (start .pre .1) (named .place-of .ensures)
-
-returns : tie.Need-returns
-returns c =
-    let start = Begun (c .before) in
-    code-fields (start .pre .0) (start .args .o) (fields (c .before)) (c .if1 .taken)
 
 side-count-requires : tie.Need-side-count-requires
 side-count-requires c κs =
@@ -83,9 +75,11 @@ taker-of-requires : tie.Need-taker-of-requires
 taker-of-requires c κs =
     let stands = Stands c in
     let tested = Passed stands .before in
-    let start = Begun tested in
-    (start .pre .1 .account-low, start .pre .1 .contract-low,
-    opposite-room (start .pre .0) (start .args .o) (start .pre .1) (Named tested .place-of .ensures) (c .side-area .ensures) (stands .before .side-count2 .ensures))
+    let start = Begun tested in (
+      start .pre .1 .account-low,
+      start .pre .1 .contract-low,
+      opposite-room (start .pre .0) (start .args .o) (start .pre .1) (Named tested .place-of .ensures) (c .side-area .ensures) (stands .before .side-count2 .ensures),
+    )
 
 book-code-requires : tie.Need-book-code-requires
 book-code-requires c κs =
@@ -94,9 +88,11 @@ book-code-requires c κs =
     let tested = Passed stands .before in
     let start = Begun tested in
     let place = Named tested .place-of .ensures in
-    let taker = taker-here (start .pre .0) (start .args .o) (start .pre .1) place (side .side-area .ensures) (stands .before .side-count2 .ensures) (stands .listed-at .ensures) _ (c .taker-of .ensures) in
-    (facing (start .pre .0) (start .args .o) (start .pre .1) place (side .side-area .ensures) (stands .before .side-count2 .ensures) _ taker,
-    rw (stands .listed-at .ensures) (recorded-high (start .pre .0) (start .args .o)))
+    let taker = taker-here (start .pre .0) (start .args .o) (start .pre .1) place (side .side-area .ensures) (stands .before .side-count2 .ensures)
+    (stands .listed-at .ensures) _ (c .taker-of .ensures) in (
+      facing (start .pre .0) (start .args .o) (start .pre .1) place (side .side-area .ensures) (stands .before .side-count2 .ensures) _ taker,
+      rw (stands .listed-at .ensures) (recorded-high (start .pre .0) (start .args .o)),
+    )
 
 returns-3 : tie.Need-returns-3
 returns-3 c =
@@ -105,20 +101,22 @@ returns-3 c =
     let passed = Passed stands in
     let start = Begun (passed .before) in
     let place = Named (passed .before) .place-of .ensures in
-    let taker = taker-here (start .pre .0) (start .args .o) (start .pre .1) place (side .side-area .ensures) (stands .before .side-count2 .ensures) (stands .listed-at .ensures) _ (c .before .taker-of .ensures) in
+    let taker = taker-here (start .pre .0) (start .args .o) (start .pre .1) place (side .side-area .ensures) (stands .before .side-count2 .ensures)
+    (stands .listed-at .ensures) _ (c .before .taker-of .ensures) in
     code-book (start .pre .0) (start .args .o) (fields (passed .before)) (passed .if1 .left) (side .before .before .before .account-code .ensures) (side .before .before .if2 .left)
     (c .book-code .ensures _
-    (meets (start .pre .0) (start .args .o) (start .pre .1) place (side .side-area .ensures) (stands .before .side-count2 .ensures) (stands .listed-at .ensures) taker (stands .before .before .before .side-count .ensures)))
+    (meets (start .pre .0) (start .args .o) (start .pre .1) place (side .side-area .ensures) (stands .before .side-count2 .ensures)
+    (stands .listed-at .ensures) taker (stands .before .before .before .side-count .ensures)))
 
 pub order-code-spec : {M : Type 1} → statement M
 order-code-spec =
     tie.close (tie.spec
-    place-of-requires
+    (λ c κs. c .before .before .before .pre .1 .contract-low)  -- place-of-requires
     (λ c. search needs)  -- mul-terms
     array-copy-out-terms
     (λ c κs. search needs)  -- conditions-refused-requires
     fields-code-requires
-    returns
+    (λ c. let start = Begun (c .before) in code-fields (start .pre .0) (start .args .o) (fields (c .before)) (c .if1 .taken))  -- returns
     side-count-requires
     side-count-requires-2
     listed-at-requires

@@ -45,11 +45,6 @@ trades c =
 
 -- ---- the needs
 
-array-copy-out-terms : tie.Need-array-copy-out-terms
-array-copy-out-terms c =
-    let begun = start (c .before) in
-    place-fits (begun .pre .0) (begun .args .o) (begun .pre .1) (c .before .place-of .ensures)
-
 side-count-requires : tie.Need-side-count-requires
 side-count-requires c κs =
     let place = c .before .before .before in
@@ -58,9 +53,6 @@ side-count-requires c κs =
 returns-2 : tie.Need-returns-2
 unfolding exchangeOf
 returns-2 c = reentry-stamps _ _ _ (c .before .before .account-code .ensures) (c .before .if1 .left) (c .if2 .taken)
-
-taker-of-requires : tie.Need-taker-of-requires
-taker-of-requires c κs = let begun = start (placed (counted c)) in (begun .pre .1 .account-low, begun .pre .1 .contract-low, room c)
 
 trades-refused-requires : tie.Need-trades-refused-requires
 trades-refused-requires c κs =
@@ -80,18 +72,16 @@ returns-4 c =
     reentry-clear _ _ _ (past faced .before .account-code .ensures) (past faced .if1 .left) (faced .before .before .if2 .left) (trades (c .before)) (c .if3 .left)
 
 pub reentry-code-spec : {M : Type 1} → statement M
-reentry-code-spec =
-    tie.close
-    (tie.spec
+reentry-code-spec = tie.close (tie.spec
     (λ c κs. search needs)
     (λ c. search needs)
-    array-copy-out-terms
+    (λ c. let begun = start (c .before) in place-fits (begun .pre .0) (begun .args .o) (begun .pre .1) (c .before .place-of .ensures))  -- array-copy-out-terms
     side-count-requires
     (λ c κs. search needs)
     (λ c. reentry-account _ _ _ (c .before .account-code .ensures) (c .if1 .taken))
     returns-2
     (λ c κs. search needs)
-    taker-of-requires
+    (λ c κs. let begun = start (placed (counted c)) in (begun .pre .1 .account-low, begun .pre .1 .contract-low, room c))  -- taker-of-requires
     trades-refused-requires
     returns-3
     returns-4)

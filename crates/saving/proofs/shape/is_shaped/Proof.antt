@@ -9,57 +9,44 @@ use borrow.Author.Needs.{needs}
 use Rattle.saving.proofs.shape.is_shaped.Statement.{statement}
 use Rattle.saving.proofs.shape.is_shaped.Tie as tie
 
+-- back to the start
+abbrev Begun : tie.Else2 → tie.Start
+Begun c = c .before .before .before .before .before
+
 -- ---- what the two counts have shown
 
-contracts : (c : tie.Else2) → c .before .before .before .count-before .result ≡ contractsIn (c .before .before .before .before .before .args .file .now)
+contracts : (c : tie.Else2) → c .before .before .before .count-before .result ≡ contractsIn (Begun c .args .file .now)
 contracts c = contracts-are _ (c .before .before .before .count-before .ensures .0) (c .before .before .if1 .left)
 
-accounts : (c : tie.Else2) → c .before .count-before2 .result ≡ savedAccountsIn (c .before .before .before .before .before .args .file .now)
+accounts : (c : tie.Else2) → c .before .count-before2 .result ≡ savedAccountsIn (Begun c .args .file .now)
 accounts c = accounts-are _ (c .before .before .before .count-before .ensures .0) (c .before .before .if1 .left) refl (c .before .count-before2 .ensures .0) (c .if2 .left)
 
 -- ---- the needs
 
-count-before-requires : tie.Need-count-before-requires
-count-before-requires c κs = search needs
-
-returns : tie.Need-returns
-returns c = no-contracts _ (c .before .count-before .ensures .0) (c .if1 .taken)
-
-mul-end : tie.Need-mul-end
-mul-end c = search needs
-
-add-end : tie.Need-add-end
-add-end c = search needs
-
-count-before-requires-2 : tie.Need-count-before-requires-2
-count-before-requires-2 c κs = search needs
-
 returns-2 : tie.Need-returns-2
 returns-2 c = no-accounts _ (c .before .before .before .count-before .ensures .0) (c .before .before .if1 .left) refl (c .before .count-before2 .ensures .0) (c .if2 .taken)
-
-file-length-requires : tie.Need-file-length-requires
-file-length-requires c κs = (c .before .before .before .count-before .ensures .1, c .before .count-before2 .ensures .1)
 
 returns-3 : tie.Need-returns-3
 returns-3 c = length-wrong _ _ _ _ (contracts (c .before .before)) (accounts (c .before .before)) (c .before .file-length .ensures .0) (c .if3 .taken)
 
 counts-right-requires : tie.Need-counts-right-requires
-counts-right-requires c κs = laid _ _ _ _ (contracts (c .before .before)) (accounts (c .before .before)) (c .before .file-length .ensures .0) (c .if3 .left) (omega arith) (omega arith) (omega arith) (omega arith)
+counts-right-requires c κs =
+    laid _ _ _ _ (contracts (c .before .before)) (accounts (c .before .before)) (c .before .file-length .ensures .0) (c .if3 .left) (omega arith) (omega arith) (omega arith) (omega arith)
 
 returns-4 : tie.Need-returns-4
-returns-4 c = decided _ _ _ _ (contracts (c .before .before .before)) (accounts (c .before .before .before)) (c .before .before .file-length .ensures .0) (c .before .if3 .left) (omega arith) (omega arith) (omega arith) (omega arith) (c .counts-right .ensures)
+returns-4 c =
+    decided _ _ _ _ (contracts (c .before .before .before)) (accounts (c .before .before .before)) (c .before .before .file-length .ensures .0)
+    (c .before .if3 .left) (omega arith) (omega arith) (omega arith) (omega arith) (c .counts-right .ensures)
 
 pub is-shaped-spec : {M : Type 1} → statement M
-is-shaped-spec =
-    tie.close
-    (tie.spec
-    count-before-requires
-    returns
-    mul-end
-    add-end
-    count-before-requires-2
+is-shaped-spec = tie.close (tie.spec
+    (λ c κs. search needs)  -- count-before-requires
+    (λ c. no-contracts _ (c .before .count-before .ensures .0) (c .if1 .taken))  -- returns
+    (λ c. search needs)  -- mul-end
+    (λ c. search needs)  -- add-end
+    (λ c κs. search needs)  -- count-before-requires-2
     returns-2
-    file-length-requires
+    (λ c κs. (c .before .before .before .count-before .ensures .1, c .before .count-before2 .ensures .1))  -- file-length-requires
     returns-3
     counts-right-requires
     returns-4)

@@ -16,53 +16,31 @@ Inv-loop file contracts accounts first a₀ a = (a ≤ accounts) × (all (markSo
 abbrev μ-loop : tie.MeasureT-loop
 μ-loop file contracts accounts first a₀ a = accounts - a
 
-mul-first : tie.Need-mul-first Inv-loop μ-loop
-mul-first c = omega (arith, c .before .pre .few-contracts)
-
-add-first : tie.Need-add-first Inv-loop μ-loop
-add-first c = omega (arith, c .before .pre .few-contracts)
-
-loop-holds : tie.Need-loop-holds Inv-loop μ-loop
-loop-holds c = (omega arith, all-none _)
-
-mul-u8-at : tie.Need-mul-u8-at Inv-loop μ-loop
-mul-u8-at c = omega (arith, c .before .before .before .pre .few-accounts)
-
-add-u8-at : tie.Need-add-u8-at Inv-loop μ-loop
-add-u8-at c = omega (arith, c .before .before .before .pre .few-accounts, c .before .before .before .pre .few-contracts)
+-- back to the start
+abbrev Begun : tie.After-u8-at Inv-loop μ-loop → tie.Start Inv-loop μ-loop
+Begun c = c .before .before .before .before
 
 u8-at-requires : tie.Need-u8-at-requires Inv-loop μ-loop
 u8-at-requires c κs = omega (arith, c .before .before .before .pre .few-accounts, c .before .before .before .pre .few-contracts, c .before .before .before .pre .ends)
 
 returns : tie.Need-returns Inv-loop μ-loop
-returns c = sym (all-stop _ _ _ (c .before .before .loop-test .taken) (mark-wrong _ _ _ (c .before .before .before .before .before .pre) _ _ _ refl (c .before .u8-at .ensures) (c .if1 .taken)))
-
-add-a : tie.Need-add-a Inv-loop μ-loop
-add-a c = omega (arith, c .before .before .before .before .before .pre .few-accounts)
-
-loop-less : tie.Need-loop-less Inv-loop μ-loop
-loop-less c = omega arith
+returns c = sym (all-stop _ _ _ (c .before .before .loop-test .taken) (mark-wrong _ _ _ (Begun (c .before) .pre) _ _ _ refl (c .before .u8-at .ensures) (c .if1 .taken)))
 
 loop-again : tie.Need-loop-again Inv-loop μ-loop
-loop-again c = (omega arith, all-more _ _ (c .before .before .before .loop .inv .1) (mark-right _ _ _ (c .before .before .before .before .before .pre) _ _ _ refl (c .before .u8-at .ensures) (c .if1 .left)))
-
-returns-2 : tie.Need-returns-2 Inv-loop μ-loop
-returns-2 c = all-end _ (c .before .loop .inv .1) (c .before .loop .inv .0) (c .loop-test .left)
+loop-again c = (omega arith, all-more _ _ (c .before .before .before .loop .inv .1) (mark-right _ _ _ (Begun (c .before) .pre) _ _ _ refl (c .before .u8-at .ensures) (c .if1 .left)))
 
 pub marks-sound-spec : {M : Type 1} → statement M
-marks-sound-spec =
-    tie.close
-    (tie.spec
+marks-sound-spec = tie.close (tie.spec
     Inv-loop
     μ-loop
-    mul-first
-    add-first
-    loop-holds
-    mul-u8-at
-    add-u8-at
+    (λ c. omega (arith, c .before .pre .few-contracts))  -- mul-first
+    (λ c. omega (arith, c .before .pre .few-contracts))  -- add-first
+    (λ c. (omega arith, all-none _))  -- loop-holds
+    (λ c. omega (arith, c .before .before .before .pre .few-accounts))  -- mul-u8-at
+    (λ c. omega (arith, c .before .before .before .pre .few-accounts, c .before .before .before .pre .few-contracts))  -- add-u8-at
     u8-at-requires
     returns
-    add-a
-    loop-less
+    (λ c. omega (arith, Begun (c .before) .pre .few-accounts))  -- add-a
+    (λ c. omega arith)  -- loop-less
     loop-again
-    returns-2)
+    (λ c. all-end _ (c .before .loop .inv .1) (c .before .loop .inv .0) (c .loop-test .left)))  -- returns-2

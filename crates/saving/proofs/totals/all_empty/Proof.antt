@@ -16,65 +16,49 @@ Inv-loop state contracts c₀ c = (c ≤ contracts) × (all (emptyPreOpenAt stat
 abbrev μ-loop : tie.MeasureT-loop
 μ-loop state contracts c₀ c = contracts - c
 
-loop-holds : tie.Need-loop-holds Inv-loop μ-loop
-loop-holds c = (omega arith, all-none _)
+-- back to the turn's begin
+abbrev Turn : tie.Else1 Inv-loop μ-loop → tie.In-loop Inv-loop μ-loop
+Turn c = c .before .before .before .before .before
 
-mul-terms : tie.Need-mul-terms Inv-loop μ-loop
-mul-terms c = omega arith
-
-element-copy-out-terms : tie.Need-element-copy-out-terms Inv-loop μ-loop
-element-copy-out-terms c = omega arith
-
-mul-buycount : tie.Need-mul-buycount Inv-loop μ-loop
-mul-buycount c = omega arith
-
-element-copy-out-buycount : tie.Need-element-copy-out-buycount Inv-loop μ-loop
-element-copy-out-buycount c = omega arith
-
-mul-sellcount : tie.Need-mul-sellcount Inv-loop μ-loop
-mul-sellcount c = omega arith
-
-element-copy-out-sellcount : tie.Need-element-copy-out-sellcount Inv-loop μ-loop
-element-copy-out-sellcount c = omega arith
+-- back to the turn's begin
+abbrev Turn-from-met-terms : tie.Then1 Inv-loop μ-loop → tie.In-loop Inv-loop μ-loop
+Turn-from-met-terms c = c .before .before .before .before .before
 
 returns : tie.Need-returns Inv-loop μ-loop
-returns c = sym (all-stop _ _ _ (c .before .before .before .before .before .loop-test .taken) (not-pre-open (c .before .before .before .before .before .before .before .args .t1) (c .before .before .before .before .before .before .loop .c) (c .if1 .taken)))
+returns c =
+    let turn-from-met-terms = Turn-from-met-terms c in
+    sym (all-stop _ _ _ (turn-from-met-terms .loop-test .taken) (not-pre-open (turn-from-met-terms .before .before .args .t1) (turn-from-met-terms .before .loop .c) (c .if1 .taken)))
 
 returns-2 : tie.Need-returns-2 Inv-loop μ-loop
-returns-2 c = sym (all-stop _ _ _ (c .before .before .before .before .before .before .loop-test .taken) (some-buys (c .before .before .before .before .before .before .before .before .args .t1) (c .before .before .before .before .before .before .before .loop .c) (c .if2 .taken)))
+returns-2 c =
+    let turn = Turn (c .before) in
+    sym (all-stop _ _ _ (turn .loop-test .taken) (some-buys (turn .before .before .args .t1) (turn .before .loop .c) (c .if2 .taken)))
 
 returns-3 : tie.Need-returns-3 Inv-loop μ-loop
-returns-3 c = sym (all-stop _ _ _ (c .before .before .before .before .before .before .before .loop-test .taken) (some-sells (c .before .before .before .before .before .before .before .before .before .args .t1) (c .before .before .before .before .before .before .before .before .loop .c) (c .if3 .taken)))
-
-add-c : tie.Need-add-c Inv-loop μ-loop
-add-c c = omega arith
-
-loop-less : tie.Need-loop-less Inv-loop μ-loop
-loop-less c = omega arith
+returns-3 c =
+    let turn = Turn (c .before .before) in
+    sym (all-stop _ _ _ (turn .loop-test .taken) (some-sells (turn .before .before .args .t1) (turn .before .loop .c) (c .if3 .taken)))
 
 loop-again : tie.Need-loop-again Inv-loop μ-loop
-loop-again c = (omega arith, all-more _ _ (c .before .before .before .before .before .before .before .before .loop .inv .1) (is-empty (c .before .before .before .before .before .before .before .before .before .args .t1) (c .before .before .before .before .before .before .before .before .loop .c) (c .before .before .if1 .left) (c .before .if2 .left) (c .if3 .left)))
-
-returns-4 : tie.Need-returns-4 Inv-loop μ-loop
-returns-4 c = all-end _ (c .before .loop .inv .1) (c .before .loop .inv .0) (c .loop-test .left)
+loop-again c =
+    let turn = Turn (c .before .before) in
+    (omega arith, all-more _ _ (turn .before .loop .inv .1) (is-empty (turn .before .before .args .t1) (turn .before .loop .c) (c .before .before .if1 .left) (c .before .if2 .left) (c .if3 .left)))
 
 pub all-empty-spec : {M : Type 1} → statement M
-all-empty-spec =
-    tie.close
-    (tie.spec
+all-empty-spec = tie.close (tie.spec
     Inv-loop
     μ-loop
-    loop-holds
-    mul-terms
-    element-copy-out-terms
-    mul-buycount
-    element-copy-out-buycount
-    mul-sellcount
-    element-copy-out-sellcount
+    (λ c. (omega arith, all-none _))  -- loop-holds
+    (λ c. omega arith)  -- mul-terms
+    (λ c. omega arith)  -- element-copy-out-terms
+    (λ c. omega arith)  -- mul-buycount
+    (λ c. omega arith)  -- element-copy-out-buycount
+    (λ c. omega arith)  -- mul-sellcount
+    (λ c. omega arith)  -- element-copy-out-sellcount
     returns
     returns-2
     returns-3
-    add-c
-    loop-less
+    (λ c. omega arith)  -- add-c
+    (λ c. omega arith)  -- loop-less
     loop-again
-    returns-4)
+    (λ c. all-end _ (c .before .loop .inv .1) (c .before .loop .inv .0) (c .loop-test .left)))  -- returns-4

@@ -17,37 +17,14 @@ Inv-loop list accounts contracts c₀ c = (c ≤ contracts) × (all (totalsEqual
 abbrev μ-loop : tie.MeasureT-loop
 μ-loop list accounts contracts c₀ c = contracts - c
 
-loop-holds : tie.Need-loop-holds Inv-loop μ-loop
-loop-holds c = (omega arith, all-none _)
-
-totals-equal-requires : tie.Need-totals-equal-requires Inv-loop μ-loop
-totals-equal-requires c κs = (c .before .before .pre .0, omega arith)
-
-returns : tie.Need-returns Inv-loop μ-loop
-returns c = sym (all-stop _ _ _ (c .before .before .loop-test .taken) (refused (c .before .totals-equal .ensures) (c .if1 .taken)))
-
-add-c : tie.Need-add-c Inv-loop μ-loop
-add-c c = omega arith
-
-loop-less : tie.Need-loop-less Inv-loop μ-loop
-loop-less c = omega arith
-
-loop-again : tie.Need-loop-again Inv-loop μ-loop
-loop-again c = (omega arith, all-more _ _ (c .before .before .before .loop .inv .1) (passed (c .before .totals-equal .ensures) (c .if1 .left)))
-
-returns-2 : tie.Need-returns-2 Inv-loop μ-loop
-returns-2 c = all-end _ (c .before .loop .inv .1) (c .before .loop .inv .0) (c .loop-test .left)
-
 pub all-equal-spec : {M : Type 1} → statement M
-all-equal-spec =
-    tie.close
-    (tie.spec
+all-equal-spec = tie.close (tie.spec
     Inv-loop
     μ-loop
-    loop-holds
-    totals-equal-requires
-    returns
-    add-c
-    loop-less
-    loop-again
-    returns-2)
+    (λ c. (omega arith, all-none _))  -- loop-holds
+    (λ c κs. (c .before .before .pre .0, omega arith))  -- totals-equal-requires
+    (λ c. sym (all-stop _ _ _ (c .before .before .loop-test .taken) (refused (c .before .totals-equal .ensures) (c .if1 .taken))))  -- returns
+    (λ c. omega arith)  -- add-c
+    (λ c. omega arith)  -- loop-less
+    (λ c. (omega arith, all-more _ _ (c .before .before .before .loop .inv .1) (passed (c .before .totals-equal .ensures) (c .if1 .left))))  -- loop-again
+    (λ c. all-end _ (c .before .loop .inv .1) (c .before .loop .inv .0) (c .loop-test .left)))  -- returns-2

@@ -15,65 +15,33 @@ Inv-loop accounts c list long₀ short₀ a₀ long short a = Adding list accoun
 abbrev μ-loop : tie.MeasureT-loop
 μ-loop accounts c list long₀ short₀ a₀ long short a = accounts - a
 
+-- back to the loop's head
+abbrev Head : tie.After-wide-lots2 Inv-loop μ-loop → tie.At-loop Inv-loop μ-loop
+Head c = c .before .before .before .before .before
+
 -- the array has its places
 places : (c : tie.Start Inv-loop μ-loop) → length (c .args .t1) ≡ 32
 places c = search (needs, unmapped)
 
-loop-holds : tie.Need-loop-holds Inv-loop μ-loop
-loop-holds c = adding-none _ _ _
-
-mul-holder : tie.Need-mul-holder Inv-loop μ-loop
-mul-holder c = omega arith
-
-array-copy-out-holder : tie.Need-array-copy-out-holder Inv-loop μ-loop
-array-copy-out-holder c = omega arith
-
-mul-h : tie.Need-mul-h Inv-loop μ-loop
-mul-h c = omega arith
-
-element-copy-out-h : tie.Need-element-copy-out-h Inv-loop μ-loop
-element-copy-out-h c = omega arith
-
-wide-lots-requires : tie.Need-wide-lots-requires Inv-loop μ-loop
-wide-lots-requires c κs = tt
-
-add-long : tie.Need-add-long Inv-loop μ-loop
-add-long c = omega (arith, c .before .before .before .before .loop .inv .long-small, c .wide-lots .ensures .1)
-
-wide-lots-requires-2 : tie.Need-wide-lots-requires-2 Inv-loop μ-loop
-wide-lots-requires-2 c κs = tt
-
-add-short : tie.Need-add-short Inv-loop μ-loop
-add-short c = omega (arith, c .before .before .before .before .before .loop .inv .short-small, c .wide-lots2 .ensures .1)
-
-add-a : tie.Need-add-a Inv-loop μ-loop
-add-a c = omega arith
-
-loop-less : tie.Need-loop-less Inv-loop μ-loop
-loop-less c = omega arith
-
 loop-again : tie.Need-loop-again Inv-loop μ-loop
-loop-again c = adding-more _ _ _ _ _ _ _ _ (omega (arith, places (c .before .before .before .before .before .before))) (c .before .before .before .before .loop-test .taken) (c .before .before .before .before .before .loop .inv) (c .before .wide-lots .ensures .0) (c .wide-lots2 .ensures .0) (omega (arith, c .before .wide-lots .ensures .1)) (omega (arith, c .wide-lots2 .ensures .1))
-
-returns : tie.Need-returns Inv-loop μ-loop
-returns c = adding-done _ _ _ _ _ _ (c .loop-test .left) (c .before .loop .inv)
+loop-again c =
+    adding-more _ _ _ _ _ _ _ _ (omega (arith, places (Head c .before))) (c .before .before .before .before .loop-test .taken) (Head c .loop .inv)
+    (c .before .wide-lots .ensures .0) (c .wide-lots2 .ensures .0) (omega (arith, c .before .wide-lots .ensures .1)) (omega (arith, c .wide-lots2 .ensures .1))
 
 pub totals-equal-spec : {M : Type 1} → statement M
-totals-equal-spec =
-    tie.close
-    (tie.spec
+totals-equal-spec = tie.close (tie.spec
     Inv-loop
     μ-loop
-    loop-holds
-    mul-holder
-    array-copy-out-holder
-    mul-h
-    element-copy-out-h
-    wide-lots-requires
-    add-long
-    wide-lots-requires-2
-    add-short
-    add-a
-    loop-less
+    (λ c. adding-none _ _ _)  -- loop-holds
+    (λ c. omega arith)  -- mul-holder
+    (λ c. omega arith)  -- array-copy-out-holder
+    (λ c. omega arith)  -- mul-h
+    (λ c. omega arith)  -- element-copy-out-h
+    (λ c κs. tt)  -- wide-lots-requires
+    (λ c. omega (arith, c .before .before .before .before .loop .inv .long-small, c .wide-lots .ensures .1))  -- add-long
+    (λ c κs. tt)  -- wide-lots-requires-2
+    (λ c. omega (arith, Head c .loop .inv .short-small, c .wide-lots2 .ensures .1))  -- add-short
+    (λ c. omega arith)  -- add-a
+    (λ c. omega arith)  -- loop-less
     loop-again
-    returns)
+    (λ c. adding-done _ _ _ _ _ _ (c .loop-test .left) (c .before .loop .inv)))  -- returns

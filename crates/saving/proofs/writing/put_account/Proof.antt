@@ -9,31 +9,24 @@ use borrow.Author.Needs.{needs}
 use Rattle.saving.proofs.writing.put_account.Statement.{statement}
 use Rattle.saving.proofs.writing.put_account.Tie as tie
 
-unsigned-requires : tie.Need-unsigned-requires
-unsigned-requires c κs = search needs
+-- back to the call of `unsigned`
+abbrev Unsigned : tie.After-struct-known → tie.After-unsigned
+Unsigned c = c .before .before .before .before .before
 
-put-u64-requires : tie.Need-put-u64-requires
-put-u64-requires c κs = search needs
-
-cast-put-byte : tie.Need-cast-put-byte
-cast-put-byte c = omega (arith, c .before .before .before .before .before .before .before .before .before .pre .1)
-
-put-byte-requires : tie.Need-put-byte-requires
-put-byte-requires c κs = search needs
-
-same-length : tie.Need-same-length
-same-length c = search needs
+-- back to the call whose answer is `next`
+abbrev Next : tie.After-slice-known3 → tie.After-put-u64
+Next c = c .before .before .before .before .before .before .before
 
 returns : tie.Need-returns
-returns c = account-written (c .before .before .before .before .before .before .before .before .before .before .before .before .args .a) _ _ (c .before .before .before .before .before .before .before .before .unsigned .ensures ∙ ap unsigned (toZ-ofZ {w = w64} (record { sfits = c .before .before .before .before .before .before .before .before .before .struct-told .given .0 .1 }))) refl (c .before .before .before .before .before .before .before .put-u64 .ensures) (c .before .before .put-byte .ensures)
+returns c =
+    account-written (Unsigned (c .before .before .before) .before .before .before .before .args .a) _ _ (Next c .before .unsigned .ensures
+    ∙ ap unsigned (toZ-ofZ {w = w64} (record { sfits = Next c .before .before .struct-told .given .0 .1 }))) refl (Next c .put-u64 .ensures) (c .before .before .put-byte .ensures)
 
 pub put-account-spec : {M : Type 1} → statement M
-put-account-spec =
-    tie.close
-    (tie.spec
-    unsigned-requires
-    put-u64-requires
-    cast-put-byte
-    put-byte-requires
-    same-length
+put-account-spec = tie.close (tie.spec
+    (λ c κs. search needs)  -- unsigned-requires
+    (λ c κs. search needs)  -- put-u64-requires
+    (λ c. omega (arith, Unsigned c .before .before .before .before .pre .1))  -- cast-put-byte
+    (λ c κs. search needs)  -- put-byte-requires
+    (λ c. search needs)  -- same-length
     returns)

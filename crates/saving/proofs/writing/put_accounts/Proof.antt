@@ -15,45 +15,32 @@ Inv-loop out₀ at n list next₀ i₀ out next i = Telling (λ k. accountBytes 
 abbrev μ-loop : tie.MeasureT-loop
 μ-loop out₀ at n list next₀ i₀ out next i = n - i
 
-loop-holds : tie.Need-loop-holds Inv-loop μ-loop
-loop-holds c = telling-none _ _ _ _ (omega (arith, c .before .pre .0 .1))
-
-mul-a : tie.Need-mul-a Inv-loop μ-loop
-mul-a c = omega arith
-
-array-copy-out-a : tie.Need-array-copy-out-a Inv-loop μ-loop
-array-copy-out-a c = omega arith
+-- back to the turn's begin
+abbrev Turn : tie.After-put-account-arg Inv-loop μ-loop → tie.In-loop Inv-loop μ-loop
+Turn c = c .before .before
 
 put-account-requires : tie.Need-put-account-requires Inv-loop μ-loop
-put-account-requires c κs = (telling-fits _ _ _ _ _ _ _ (c .before .before .loop-test .taken) (c .before .before .before .loop .inv) (length-account _) (c .before .before .before .before .before .pre .0 .1), c .before .before .before .before .before .pre .1 _ (c .before .before .loop-test .taken))
-
-add-i : tie.Need-add-i Inv-loop μ-loop
-add-i c = omega arith
-
-loop-less : tie.Need-loop-less Inv-loop μ-loop
-loop-less c = omega arith
+put-account-requires c κs = (
+  telling-fits _ _ _ _ _ _ _ (c .before .before .loop-test .taken) (c .before .before .before .loop .inv) (length-account _)
+      (Turn c .before .before .before .pre .0 .1),
+  Turn c .before .before .before .pre .1 _ (c .before .before .loop-test .taken),
+)
 
 loop-again : tie.Need-loop-again Inv-loop μ-loop
-loop-again c = telling-more _ _ _ _ _ _ _ (c .before .before .before .before .before .loop-test .taken) (c .before .before .before .before .before .before .loop .inv) (c .before .before .put-account .ensures)
-
-same-length : tie.Need-same-length Inv-loop μ-loop
-same-length c = c .before .loop .inv .row .kept
-
-returns : tie.Need-returns Inv-loop μ-loop
-returns c = telling-done _ _ _ _ _ _ _ (c .loop-test .left) (c .before .loop .inv)
+loop-again c =
+    let turn = Turn (c .before .before .before) in
+    telling-more _ _ _ _ _ _ _ (turn .loop-test .taken) (turn .before .loop .inv) (c .before .before .put-account .ensures)
 
 pub put-accounts-spec : {M : Type 1} → statement M
-put-accounts-spec =
-    tie.close
-    (tie.spec
+put-accounts-spec = tie.close (tie.spec
     Inv-loop
     μ-loop
-    loop-holds
-    mul-a
-    array-copy-out-a
+    (λ c. telling-none _ _ _ _ (omega (arith, c .before .pre .0 .1)))  -- loop-holds
+    (λ c. omega arith)  -- mul-a
+    (λ c. omega arith)  -- array-copy-out-a
     put-account-requires
-    add-i
-    loop-less
+    (λ c. omega arith)  -- add-i
+    (λ c. omega arith)  -- loop-less
     loop-again
-    same-length
-    returns)
+    (λ c. c .before .loop .inv .row .kept)  -- same-length
+    (λ c. telling-done _ _ _ _ _ _ _ (c .loop-test .left) (c .before .loop .inv)))  -- returns

@@ -4,32 +4,9 @@ use borrow.Author.Needs.{needs}
 use Rattle.saving.proofs.writing.put_contract.Statement.{statement}
 use Rattle.saving.proofs.writing.put_contract.Tie as tie
 
-cast-put-u16 : tie.Need-cast-put-u16
-cast-put-u16 c = search needs
-
-put-u16-requires : tie.Need-put-u16-requires
-put-u16-requires c κs = search needs
-
-cast-put-u16-2 : tie.Need-cast-put-u16-2
-cast-put-u16-2 c = search needs
-
-put-u16-requires-2 : tie.Need-put-u16-requires-2
-put-u16-requires-2 c κs = search needs
-
-put-u32-requires : tie.Need-put-u32-requires
-put-u32-requires c κs = search needs
-
-put-u32-requires-2 : tie.Need-put-u32-requires-2
-put-u32-requires-2 c κs = search needs
-
-put-u32-requires-3 : tie.Need-put-u32-requires-3
-put-u32-requires-3 c κs = search needs
-
-put-u16-requires-3 : tie.Need-put-u16-requires-3
-put-u16-requires-3 c κs = search needs
-
-put-u16-requires-4 : tie.Need-put-u16-requires-4
-put-u16-requires-4 c κs = search needs
+-- back to the call whose answer is `multiplier`
+abbrev Multiplier : tie.After-put-u162 → tie.After-put-u16
+Multiplier c = c .before .before .before .before .before
 
 put-u32-requires-4 : tie.Need-put-u32-requires-4
 put-u32-requires-4 c κs =
@@ -39,12 +16,10 @@ put-u32-requires-4 c κs =
     let band = limit .before .before .before .before in
     let reference = band .before .before .before .before in
     let tick = reference .before .before .before .before in
-    let multiplier = tick .before .before .before .before .before in
-    last-room (multiplier .before .before .before .before .args .c) (multiplier .before .before .before .before .pre .0) (multiplier .put-u16 .ensures) (tick .put-u162 .ensures) (reference .put-u32 .ensures) (band .put-u322 .ensures)
+    let multiplier = Multiplier tick in
+    last-room (multiplier .before .before .before .before .args .c) (multiplier .before .before .before .before .pre .0) (multiplier .put-u16 .ensures)
+    (tick .put-u162 .ensures) (reference .put-u32 .ensures) (band .put-u322 .ensures)
     (limit .put-u323 .ensures) (rate .put-u163 .ensures) (method .put-u164 .ensures)
-
-same-length : tie.Need-same-length
-same-length c = search needs
 
 returns : tie.Need-returns
 returns c =
@@ -55,22 +30,20 @@ returns c =
     let band = limit .before .before .before .before in
     let reference = band .before .before .before .before in
     let tick = reference .before .before .before .before in
-    contract-written _ (tick .before .before .before .before .before .put-u16 .ensures) (tick .put-u162 .ensures) (reference .put-u32 .ensures) (band .put-u322 .ensures)
+    contract-written _ (Multiplier tick .put-u16 .ensures) (tick .put-u162 .ensures) (reference .put-u32 .ensures) (band .put-u322 .ensures)
     (limit .put-u323 .ensures) (rate .put-u163 .ensures) (method .put-u164 .ensures) (last .put-u324 .ensures)
 
 pub put-contract-spec : {M : Type 1} → statement M
-put-contract-spec =
-    tie.close
-    (tie.spec
-    cast-put-u16
-    put-u16-requires
-    cast-put-u16-2
-    put-u16-requires-2
-    put-u32-requires
-    put-u32-requires-2
-    put-u32-requires-3
-    put-u16-requires-3
-    put-u16-requires-4
+put-contract-spec = tie.close (tie.spec
+    (λ c. search needs)  -- cast-put-u16
+    (λ c κs. search needs)  -- put-u16-requires
+    (λ c. search needs)  -- cast-put-u16-2
+    (λ c κs. search needs)  -- put-u16-requires-2
+    (λ c κs. search needs)  -- put-u32-requires
+    (λ c κs. search needs)  -- put-u32-requires-2
+    (λ c κs. search needs)  -- put-u32-requires-3
+    (λ c κs. search needs)  -- put-u16-requires-3
+    (λ c κs. search needs)  -- put-u16-requires-4
     put-u32-requires-4
-    same-length
+    (λ c. search needs)  -- same-length
     returns)

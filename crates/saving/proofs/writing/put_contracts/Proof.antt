@@ -15,45 +15,32 @@ Inv-loop out₀ at n list next₀ c₀ out next c = Telling (λ i. contractBytes
 abbrev μ-loop : tie.MeasureT-loop
 μ-loop out₀ at n list next₀ c₀ out next c = n - c
 
-loop-holds : tie.Need-loop-holds Inv-loop μ-loop
-loop-holds c = telling-none _ _ _ _ (omega (arith, c .before .pre .0 .1))
-
-mul-terms : tie.Need-mul-terms Inv-loop μ-loop
-mul-terms c = omega arith
-
-array-copy-out-terms : tie.Need-array-copy-out-terms Inv-loop μ-loop
-array-copy-out-terms c = omega arith
+-- back to the turn's begin
+abbrev Turn : tie.After-put-contract-arg Inv-loop μ-loop → tie.In-loop Inv-loop μ-loop
+Turn c = c .before .before
 
 put-contract-requires : tie.Need-put-contract-requires Inv-loop μ-loop
-put-contract-requires c κs = (telling-fits _ _ _ _ _ _ _ (c .before .before .loop-test .taken) (c .before .before .before .loop .inv) (length-contract _) (c .before .before .before .before .before .pre .0 .1), c .before .before .before .before .before .pre .1 _ (c .before .before .loop-test .taken))
-
-add-c : tie.Need-add-c Inv-loop μ-loop
-add-c c = omega arith
-
-loop-less : tie.Need-loop-less Inv-loop μ-loop
-loop-less c = omega arith
+put-contract-requires c κs = (
+  telling-fits _ _ _ _ _ _ _ (c .before .before .loop-test .taken) (c .before .before .before .loop .inv) (length-contract _)
+      (Turn c .before .before .before .pre .0 .1),
+  Turn c .before .before .before .pre .1 _ (c .before .before .loop-test .taken),
+)
 
 loop-again : tie.Need-loop-again Inv-loop μ-loop
-loop-again c = telling-more _ _ _ _ _ _ _ (c .before .before .before .before .before .loop-test .taken) (c .before .before .before .before .before .before .loop .inv) (c .before .before .put-contract .ensures)
-
-same-length : tie.Need-same-length Inv-loop μ-loop
-same-length c = c .before .loop .inv .row .kept
-
-returns : tie.Need-returns Inv-loop μ-loop
-returns c = telling-done _ _ _ _ _ _ _ (c .loop-test .left) (c .before .loop .inv)
+loop-again c =
+    let turn = Turn (c .before .before .before) in
+    telling-more _ _ _ _ _ _ _ (turn .loop-test .taken) (turn .before .loop .inv) (c .before .before .put-contract .ensures)
 
 pub put-contracts-spec : {M : Type 1} → statement M
-put-contracts-spec =
-    tie.close
-    (tie.spec
+put-contracts-spec = tie.close (tie.spec
     Inv-loop
     μ-loop
-    loop-holds
-    mul-terms
-    array-copy-out-terms
+    (λ c. telling-none _ _ _ _ (omega (arith, c .before .pre .0 .1)))  -- loop-holds
+    (λ c. omega arith)  -- mul-terms
+    (λ c. omega arith)  -- array-copy-out-terms
     put-contract-requires
-    add-c
-    loop-less
+    (λ c. omega arith)  -- add-c
+    (λ c. omega arith)  -- loop-less
     loop-again
-    same-length
-    returns)
+    (λ c. c .before .loop .inv .row .kept)  -- same-length
+    (λ c. telling-done _ _ _ _ _ _ _ (c .loop-test .left) (c .before .loop .inv)))  -- returns

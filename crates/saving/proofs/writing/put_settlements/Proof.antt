@@ -4,17 +4,13 @@ use borrow.Author.Needs.{needs}
 use Rattle.saving.proofs.writing.put_settlements.Statement.{statement}
 use Rattle.saving.proofs.writing.put_settlements.Tie as tie
 
-put-u32-requires : tie.Need-put-u32-requires
-put-u32-requires c κs = search needs
-
-put-u32-requires-2 : tie.Need-put-u32-requires-2
-put-u32-requires-2 c κs = search needs
-
-same-length : tie.Need-same-length
-same-length c = search needs
-
-returns : tie.Need-returns
-returns c = then (c .before .before .before .before .before .before .put-u32 .ensures) (c .before .before .put-u322 .ensures)
+-- back to the call whose answer is `next`
+abbrev Next : tie.After-put-u322 → tie.After-put-u32
+Next c = c .before .before .before .before
 
 pub put-settlements-spec : {M : Type 1} → statement M
-put-settlements-spec = tie.close (tie.spec put-u32-requires put-u32-requires-2 same-length returns)
+put-settlements-spec = tie.close (tie.spec
+    (λ c κs. search needs)  -- put-u32-requires
+    (λ c κs. search needs)  -- put-u32-requires-2
+    (λ c. search needs)  -- same-length
+    (λ c. then (Next (c .before .before) .put-u32 .ensures) (c .before .before .put-u322 .ensures)))  -- returns

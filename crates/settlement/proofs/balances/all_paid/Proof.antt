@@ -70,9 +70,7 @@ loop-again c =
     (inv .0, paying-more (inv .0 .payable) (inv .1) gained (now .loop-test .taken) (c .paid .ensures))
 
 pub all-paid-spec : {M : Type 1} → statement M
-all-paid-spec =
-    tie.close
-    (tie.spec
+all-paid-spec = tie.close (tie.spec
     Inv-loop
     μ-loop
     (λ c. search needs)

@@ -7,14 +7,11 @@ use borrow.Author.Needs.{needs}
 use Rattle.settlement.proofs.balances.multiplied.Statement.{statement}
 use Rattle.settlement.proofs.balances.multiplied.Tie as tie
 
-cast-result : tie.Need-cast-result
-cast-result c = search needs
-
-mul-result : tie.Need-mul-result
-mul-result c = mul-fits {n = 1_000} (c .args .multiplier) (c .pre .0) (c .pre .1) (omega arith) (omega arith)
-
 returns : tie.Need-returns
 returns c = mul-back {n = 1_000} (c .args .multiplier) (c .pre .0) (c .pre .1) (omega arith) (omega arith) ∙ *ℤ-comm (c .args .profit) (pos (c .args .multiplier))
 
 pub multiplied-spec : {M : Type 1} → statement M
-multiplied-spec = tie.close (tie.spec cast-result mul-result returns)
+multiplied-spec = tie.close (tie.spec
+    (λ c. search needs)  -- cast-result
+    (λ c. mul-fits {n = 1_000} (c .args .multiplier) (c .pre .0) (c .pre .1) (omega arith) (omega arith))  -- mul-result
+    returns)

@@ -12,68 +12,48 @@ Inv-loop lots left₀ state end k₀ left k = Dues state lots left k
 abbrev μ-loop : tie.MeasureT-loop
 μ-loop lots left₀ state end k₀ left k = end - k
 
-mul-end : tie.Need-mul-end Inv-loop μ-loop
-mul-end c = omega arith
+-- back to the start
+abbrev Begun : tie.In-loop Inv-loop μ-loop → tie.Start Inv-loop μ-loop
+Begun c = c .before .before .before .before
 
-loop-holds : tie.Need-loop-holds Inv-loop μ-loop
-loop-holds c = dues-none _ _ _ (c .before .before .pre .2)
+-- back to the turn's begin
+abbrev Turn : tie.After-put-due-arg2 Inv-loop μ-loop → tie.In-loop Inv-loop μ-loop
+Turn c = c .before .before .before .before .before .before .before
 
-mul-holder : tie.Need-mul-holder Inv-loop μ-loop
-mul-holder c = omega (arith, account-at _ _ (c .loop-test .taken) (c .before .before .before .before .pre .0))
-
-element-copy-out-holder : tie.Need-element-copy-out-holder Inv-loop μ-loop
-element-copy-out-holder c = account-at _ _ (c .loop-test .taken) (c .before .before .before .before .pre .0)
-
-mul-h : tie.Need-mul-h Inv-loop μ-loop
-mul-h c = omega (arith, contract-at (c .before .before .loop .k))
-
-element-copy-out-h : tie.Need-element-copy-out-h Inv-loop μ-loop
-element-copy-out-h c = contract-at _
+-- back to the call of `put-due`
+abbrev Put-due : tie.After-put-due2 Inv-loop μ-loop → tie.After-put-due Inv-loop μ-loop
+Put-due c = c .before .before .before .before
 
 put-due-requires : tie.Need-put-due-requires Inv-loop μ-loop
 put-due-requires c κs =
-    let start = c .before .before .before .before .before .before .before in
+    let start = Begun (c .before .before .before) in
     (account-at _ _ (c .before .before .before .loop-test .taken) (start .pre .0), contract-at _, start .pre .1, c .before .before .before .before .loop .inv .room)
 
 put-due-requires-2 : tie.Need-put-due-requires-2 Inv-loop μ-loop
 put-due-requires-2 c κs =
-    let start = c .before .before .before .before .before .before .before .before .before .before .before in
-    (account-at _ _ (c .before .before .before .before .before .before .before .loop-test .taken) (start .pre .0), contract-at _, start .pre .1, c .before .before .before .put-due .kept .1 .0 ∙ c .before .before .before .before .before .before .before .before .loop .inv .room)
-
-add-k : tie.Need-add-k Inv-loop μ-loop
-add-k c = omega arith
-
-loop-less : tie.Need-loop-less Inv-loop μ-loop
-loop-less c = omega arith
+    let start = Begun (Turn c) in
+    (account-at _ _ (Turn c .loop-test .taken) (start .pre .0), contract-at _, start .pre .1, c .before .before .before .put-due .kept .1 .0 ∙ Turn c .before .loop .inv .room)
 
 loop-again : tie.Need-loop-again Inv-loop μ-loop
 loop-again c =
-    let turn = c .before .before .before .before .before .before .before .before .before .before .before in
-    dues-more _ _ _ _ _ _ _ _ (turn .loop .inv) (c .before .before .before .before .before .before .before .before .before .before .loop-test .taken) (turn .before .before .before .pre .0) (contract-at _) (turn-at _)
-    (c .before .before .before .before .before .before .put-due .ensures) (c .before .before .put-due2 .ensures)
-
-same-length : tie.Need-same-length Inv-loop μ-loop
-same-length c = c .before .loop .inv .room ∙ sym (c .before .before .before .before .pre .2)
-
-returns : tie.Need-returns Inv-loop μ-loop
-returns c = dues-done _ _ _ _ (c .loop-test .left) (c .before .loop .inv)
+    let turn = Turn (c .before .before .before) .before in
+    dues-more _ _ _ _ _ _ _ _ (turn .loop .inv) (Turn (c .before .before .before) .loop-test .taken) (turn .before .before .before .pre .0) (contract-at _) (turn-at _)
+    (Put-due (c .before .before) .put-due .ensures) (c .before .before .put-due2 .ensures)
 
 pub put-all-due-spec : {M : Type 1} → statement M
-put-all-due-spec =
-    tie.close
-    (tie.spec
+put-all-due-spec = tie.close (tie.spec
     Inv-loop
     μ-loop
-    mul-end
-    loop-holds
-    mul-holder
-    element-copy-out-holder
-    mul-h
-    element-copy-out-h
+    (λ c. omega arith)  -- mul-end
+    (λ c. dues-none _ _ _ (c .before .before .pre .2))  -- loop-holds
+    (λ c. omega (arith, account-at _ _ (c .loop-test .taken) (c .before .before .before .before .pre .0)))  -- mul-holder
+    (λ c. account-at _ _ (c .loop-test .taken) (c .before .before .before .before .pre .0))  -- element-copy-out-holder
+    (λ c. omega (arith, contract-at (c .before .before .loop .k)))  -- mul-h
+    (λ c. contract-at _)  -- element-copy-out-h
     put-due-requires
     put-due-requires-2
-    add-k
-    loop-less
+    (λ c. omega arith)  -- add-k
+    (λ c. omega arith)  -- loop-less
     loop-again
-    same-length
-    returns)
+    (λ c. c .before .loop .inv .room ∙ sym (c .before .before .before .before .pre .2))  -- same-length
+    (λ c. dues-done _ _ _ _ (c .loop-test .left) (c .before .loop .inv)))  -- returns

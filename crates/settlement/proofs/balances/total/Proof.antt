@@ -20,9 +20,6 @@ abbrev μ-loop : tie.MeasureT-loop
 abbrev turn : tie.After-profit-at Inv-loop μ-loop → tie.In-loop Inv-loop μ-loop
 turn c = c .before .before .before
 
-profit-at-requires : tie.Need-profit-at-requires Inv-loop μ-loop
-profit-at-requires c κs = c .before .before .before .loop .inv .0 .each _ (c .before .before .loop-test .taken)
-
 multiplied-requires : tie.Need-multiplied-requires Inv-loop μ-loop
 multiplied-requires c κs =
     let now = turn (c .before) in
@@ -56,9 +53,7 @@ loop-again c =
     (inv .0, totalling-more (inv .0) (inv .1) (now .loop-test .taken) (gained .profit-at .ensures) (c .before .before .multiplied .ensures) (c .multiplied2 .ensures))
 
 pub total-spec : {M : Type 1} → statement M
-total-spec =
-    tie.close
-    (tie.spec
+total-spec = tie.close (tie.spec
     Inv-loop
     μ-loop
     (λ c. (search needs, totalling-none _ _ _ _ _ _ _ _))  -- loop-holds
@@ -68,7 +63,7 @@ total-spec =
     (λ c. omega arith)  -- element-copy-out-h
     (λ c. omega arith)  -- mul-due
     (λ c. omega arith)  -- array-read-due
-    profit-at-requires
+    (λ c κs. c .before .before .before .loop .inv .0 .each _ (c .before .before .loop-test .taken))  -- profit-at-requires
     multiplied-requires
     add-closing
     multiplied-requires-2

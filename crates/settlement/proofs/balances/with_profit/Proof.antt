@@ -5,14 +5,8 @@ use Rattle.settlement.proofs.Carrying.{balance-fits, balance-back}
 use Rattle.settlement.proofs.balances.with_profit.Statement.{statement}
 use Rattle.settlement.proofs.balances.with_profit.Tie as tie
 
-add-result : tie.Need-add-result
-add-result c = add-fits (c .pre .1) (c .pre .2) (omega arith)
-
-add-result-2 : tie.Need-add-result-2
-add-result-2 c = balance-fits _ _ _ (c .pre .0) (c .pre .1) (c .pre .2)
-
-returns : tie.Need-returns
-returns c = balance-back _ _ _ (c .pre .0) (c .pre .1) (c .pre .2)
-
 pub with-profit-spec : {M : Type 1} → statement M
-with-profit-spec = tie.close (tie.spec add-result add-result-2 returns)
+with-profit-spec = tie.close (tie.spec
+    (λ c. add-fits (c .pre .1) (c .pre .2) (omega arith))  -- add-result
+    (λ c. balance-fits _ _ _ (c .pre .0) (c .pre .1) (c .pre .2))  -- add-result-2
+    (λ c. balance-back _ _ _ (c .pre .0) (c .pre .1) (c .pre .2)))  -- returns

@@ -6,47 +6,32 @@ use borrow.Author.Needs.{needs}
 use Rattle.settlement.proofs.reopen.clear_areas.Statement.{statement}
 use Rattle.settlement.proofs.reopen.clear_areas.Tie as tie
 
-mul-e : tie.Need-mul-e
-mul-e c = search needs
+-- back to the start
+abbrev Begun : tie.After-clear-arg → tie.Start
+Begun c = c .before .before .before .before .before .before .before .before .before .before .before .before .before .before .before
 
-clear-queues-requires : tie.Need-clear-queues-requires
-clear-queues-requires c κs = search needs
-
-clear-queues-requires-2 : tie.Need-clear-queues-requires-2
-clear-queues-requires-2 c κs = search needs
-
-slice-relend-prefix-clear : tie.Need-slice-relend-prefix-clear
-slice-relend-prefix-clear c = search needs
-
-slice-aggregate-clear : tie.Need-slice-aggregate-clear
-slice-aggregate-clear c = sym (length-take-le _ _ (c .before .before .before .before .before .before .before .before .before .before .before .before .before .before .before .pre .trades))
-
-clear-requires : tie.Need-clear-requires
-clear-requires c κs = search needs
-
-same-length : tie.Need-same-length
-same-length c = search needs
-
-same-length-2 : tie.Need-same-length-2
-same-length-2 c = search needs
-
-same-length-3 : tie.Need-same-length-3
-same-length-3 c = search needs
+-- back to the call of `clear-queues2`
+abbrev Clear-queues2 : tie.After-clear → tie.After-clear-queues2
+Clear-queues2 c = c .before .before .before .before
 
 returns : tie.Need-returns
-returns c = record { buys = c .before .before .before .before .before .before .before .before .before .before .clear-queues .ensures; sells = c .before .before .before .before .before .before .clear-queues2 .ensures; trades = trades-cleared _ _ _ (c .before .before .before .before .before .before .before .before .before .before .before .before .before .before .before .before .before .before .pre .trades) (c .before .before .clear .ensures) }
+returns c =
+    let clear-queues2 = Clear-queues2 (c .before .before) in
+    record {
+      buys = clear-queues2 .before .before .before .before .clear-queues .ensures;
+      sells = clear-queues2 .clear-queues2 .ensures;
+      trades = trades-cleared _ _ _ (Begun (c .before .before .before) .pre .trades) (c .before .before .clear .ensures);
+    }
 
 pub clear-areas-spec : {M : Type 1} → statement M
-clear-areas-spec =
-    tie.close
-    (tie.spec
-    mul-e
-    clear-queues-requires
-    clear-queues-requires-2
-    slice-relend-prefix-clear
-    slice-aggregate-clear
-    clear-requires
-    same-length
-    same-length-2
-    same-length-3
+clear-areas-spec = tie.close (tie.spec
+    (λ c. search needs)  -- mul-e
+    (λ c κs. search needs)  -- clear-queues-requires
+    (λ c κs. search needs)  -- clear-queues-requires-2
+    (λ c. search needs)  -- slice-relend-prefix-clear
+    (λ c. sym (length-take-le _ _ (Begun c .pre .trades)))  -- slice-aggregate-clear
+    (λ c κs. search needs)  -- clear-requires
+    (λ c. search needs)  -- same-length
+    (λ c. search needs)  -- same-length-2
+    (λ c. search needs)  -- same-length-3
     returns)

@@ -12,73 +12,32 @@ Inv-loop area₀ contracts counts c₀ area c = Clearing area₀ counts contract
 abbrev μ-loop : tie.MeasureT-loop
 μ-loop area₀ contracts counts c₀ area c = contracts - c
 
-loop-holds : tie.Need-loop-holds Inv-loop μ-loop
-loop-holds c = clearing-none _ _ _
-
-mul-count : tie.Need-mul-count Inv-loop μ-loop
-mul-count c = omega arith
-
-array-read-count : tie.Need-array-read-count Inv-loop μ-loop
-array-read-count c = omega arith
-
-mul-a : tie.Need-mul-a Inv-loop μ-loop
-mul-a c = omega arith
-
-mul-e : tie.Need-mul-e Inv-loop μ-loop
-mul-e c = omega (arith, c .before .before .before .pre .counts _ (c .loop-test .taken))
-
-add-e : tie.Need-add-e Inv-loop μ-loop
-add-e c = omega (arith, c .before .before .before .pre .counts _ (c .loop-test .taken))
-
-mul-clear : tie.Need-mul-clear Inv-loop μ-loop
-mul-clear c = omega arith
-
-sub-clear : tie.Need-sub-clear Inv-loop μ-loop
-sub-clear c = omega arith
-
-part-clear-start : tie.Need-part-clear-start Inv-loop μ-loop
-part-clear-start c = search needs
-
-part-clear-end : tie.Need-part-clear-end Inv-loop μ-loop
-part-clear-end c = omega (arith, c .before .before .before .pre .counts _ (c .loop-test .taken))
-
-clear-requires : tie.Need-clear-requires Inv-loop μ-loop
-clear-requires c κs = search needs
-
-add-c : tie.Need-add-c Inv-loop μ-loop
-add-c c = omega arith
-
-loop-less : tie.Need-loop-less Inv-loop μ-loop
-loop-less c = omega arith
+-- back to the loop's head
+abbrev Head : tie.After-clear Inv-loop μ-loop → tie.At-loop Inv-loop μ-loop
+Head c = c .before .before .before
 
 loop-again : tie.Need-loop-again Inv-loop μ-loop
-loop-again c = clearing-more _ _ _ (c .before .before .before .before .before .before .before .pre) _ _ (c .before .before .before .before .loop-test .taken) (c .before .before .before .before .before .loop .inv) _ (c .before .before .clear .ensures)
-
-same-length : tie.Need-same-length Inv-loop μ-loop
-same-length c = c .before .loop .inv .long
-
-returns : tie.Need-returns Inv-loop μ-loop
-returns c = clearing-done _ _ _ _ _ (c .loop-test .left) (c .before .loop .inv)
+loop-again c =
+    clearing-more _ _ _ (Head (c .before .before) .before .before .pre) _ _ (c .before .before .before .before .loop-test .taken)
+    (Head (c .before .before) .loop .inv) _ (c .before .before .clear .ensures)
 
 pub clear-queues-spec : {M : Type 1} → statement M
-clear-queues-spec =
-    tie.close
-    (tie.spec
+clear-queues-spec = tie.close (tie.spec
     Inv-loop
     μ-loop
-    loop-holds
-    mul-count
-    array-read-count
-    mul-a
-    mul-e
-    add-e
-    mul-clear
-    sub-clear
-    part-clear-start
-    part-clear-end
-    clear-requires
-    add-c
-    loop-less
+    (λ c. clearing-none _ _ _)  -- loop-holds
+    (λ c. omega arith)  -- mul-count
+    (λ c. omega arith)  -- array-read-count
+    (λ c. omega arith)  -- mul-a
+    (λ c. omega (arith, c .before .before .before .pre .counts _ (c .loop-test .taken)))  -- mul-e
+    (λ c. omega (arith, c .before .before .before .pre .counts _ (c .loop-test .taken)))  -- add-e
+    (λ c. omega arith)  -- mul-clear
+    (λ c. omega arith)  -- sub-clear
+    (λ c. search needs)  -- part-clear-start
+    (λ c. omega (arith, c .before .before .before .pre .counts _ (c .loop-test .taken)))  -- part-clear-end
+    (λ c κs. search needs)  -- clear-requires
+    (λ c. omega arith)  -- add-c
+    (λ c. omega arith)  -- loop-less
     loop-again
-    same-length
-    returns)
+    (λ c. c .before .loop .inv .long)  -- same-length
+    (λ c. clearing-done _ _ _ _ _ (c .loop-test .left) (c .before .loop .inv)))  -- returns

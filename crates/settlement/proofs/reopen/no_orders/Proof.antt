@@ -20,37 +20,14 @@ abbrev μ-loop : tie.MeasureT-loop
 four : (c : tie.Start Inv-loop μ-loop) → length (c .args .counts) ≡ 4
 four c = search (needs, unmapped)
 
-loop-holds : tie.Need-loop-holds Inv-loop μ-loop
-loop-holds c = writing-none _ _ _
-
-mul-next : tie.Need-mul-next Inv-loop μ-loop
-mul-next c = omega arith
-
-array-write-next : tie.Need-array-write-next Inv-loop μ-loop
-array-write-next c = omega arith
-
-add-c : tie.Need-add-c Inv-loop μ-loop
-add-c c = omega arith
-
-loop-less : tie.Need-loop-less Inv-loop μ-loop
-loop-less c = omega arith
-
-loop-again : tie.Need-loop-again Inv-loop μ-loop
-loop-again c = writing-more _ _ _ (omega (arith, four (c .before .before))) _ _ _ (c .loop-test .taken) refl (c .before .loop .inv)
-
-returns : tie.Need-returns Inv-loop μ-loop
-returns c = writing-done _ _ _ _ _ (c .loop-test .left) (c .before .loop .inv) ∙ sym (overwritten-first _ _ _)
-
 pub no-orders-spec : {M : Type 1} → statement M
-no-orders-spec =
-    tie.close
-    (tie.spec
+no-orders-spec = tie.close (tie.spec
     Inv-loop
     μ-loop
-    loop-holds
-    mul-next
-    array-write-next
-    add-c
-    loop-less
-    loop-again
-    returns)
+    (λ c. writing-none _ _ _)  -- loop-holds
+    (λ c. omega arith)  -- mul-next
+    (λ c. omega arith)  -- array-write-next
+    (λ c. omega arith)  -- add-c
+    (λ c. omega arith)  -- loop-less
+    (λ c. writing-more _ _ _ (omega (arith, four (c .before .before))) _ _ _ (c .loop-test .taken) refl (c .before .loop .inv))  -- loop-again
+    (λ c. writing-done _ _ _ _ _ (c .loop-test .left) (c .before .loop .inv) ∙ sym (overwritten-first _ _ _)))  -- returns

@@ -11,49 +11,24 @@ Inv-loop state buys sells accountcount accounts terms buycounts sellcounts charg
 abbrev μ-loop : tie.MeasureT-loop
 μ-loop state buys sells accountcount accounts terms buycounts sellcounts charged₀ a₀ charged a = accountcount - a
 
-loop-holds : tie.Need-loop-holds Inv-loop μ-loop
-loop-holds c = charges-none _ _ _
-
-mul-holder : tie.Need-mul-holder Inv-loop μ-loop
-mul-holder c = omega arith
-
-array-copy-out-holder : tie.Need-array-copy-out-holder Inv-loop μ-loop
-array-copy-out-holder c = omega arith
-
-charged-requires : tie.Need-charged-requires Inv-loop μ-loop
-charged-requires c κs = c .before .before .before .before .before .before .before .before .before .before .pre .each _ (c .before .before .loop-test .taken)
-
-mul-charged : tie.Need-mul-charged Inv-loop μ-loop
-mul-charged c = omega arith
-
-array-write-charged : tie.Need-array-write-charged Inv-loop μ-loop
-array-write-charged c = omega arith
-
-add-a : tie.Need-add-a Inv-loop μ-loop
-add-a c = omega arith
-
-loop-less : tie.Need-loop-less Inv-loop μ-loop
-loop-less c = omega arith
+-- back to the start
+abbrev Begun : tie.After-holdings Inv-loop μ-loop → tie.Start Inv-loop μ-loop
+Begun c = c .before .before .before .before .before .before .before .before .before .before
 
 loop-again : tie.Need-loop-again Inv-loop μ-loop
-loop-again c = charges-more _ _ _ (c .before .before .before .before .before .before .before .before .before .before .before .pre) _ _ _ (c .before .before .before .loop-test .taken) (c .charged .ensures) (c .before .before .before .before .loop .inv)
-
-returns : tie.Need-returns Inv-loop μ-loop
-returns c = charges-done _ _ _ _ _ (c .loop-test .left) (c .before .loop .inv)
+loop-again c = charges-more _ _ _ (Begun (c .before) .pre) _ _ _ (c .before .before .before .loop-test .taken) (c .charged .ensures) (c .before .before .before .before .loop .inv)
 
 pub charges-spec : {M : Type 1} → statement M
-charges-spec =
-    tie.close
-    (tie.spec
+charges-spec = tie.close (tie.spec
     Inv-loop
     μ-loop
-    loop-holds
-    mul-holder
-    array-copy-out-holder
-    charged-requires
-    mul-charged
-    array-write-charged
-    add-a
-    loop-less
+    (λ c. charges-none _ _ _)  -- loop-holds
+    (λ c. omega arith)  -- mul-holder
+    (λ c. omega arith)  -- array-copy-out-holder
+    (λ c κs. Begun c .pre .each _ (c .before .before .loop-test .taken))  -- charged-requires
+    (λ c. omega arith)  -- mul-charged
+    (λ c. omega arith)  -- array-write-charged
+    (λ c. omega arith)  -- add-a
+    (λ c. omega arith)  -- loop-less
     loop-again
-    returns)
+    (λ c. charges-done _ _ _ _ _ (c .loop-test .left) (c .before .loop .inv)))  -- returns

@@ -13,65 +13,34 @@ Inv-loop buys sells trades state contracts count prices₀ c₀ prices c = Price
 abbrev μ-loop : tie.MeasureT-loop
 μ-loop buys sells trades state contracts count prices₀ c₀ prices c = contracts - c
 
-loop-holds : tie.Need-loop-holds Inv-loop μ-loop
-loop-holds c = writing-none _ _ _
+-- back to the start
+abbrev Begun : tie.In-loop Inv-loop μ-loop → tie.Start Inv-loop μ-loop
+Begun c = c .before .before .before .before .before
 
-mul-contract : tie.Need-mul-contract Inv-loop μ-loop
-mul-contract c = omega (arith, c .before .before .before .before .before .pre .few)
-
-element-copy-out-contract : tie.Need-element-copy-out-contract Inv-loop μ-loop
-element-copy-out-contract c = omega (arith, c .before .before .before .before .before .pre .few)
-
-mul-buycount : tie.Need-mul-buycount Inv-loop μ-loop
-mul-buycount c = omega (arith, c .before .before .before .before .before .before .pre .few)
-
-element-copy-out-buycount : tie.Need-element-copy-out-buycount Inv-loop μ-loop
-element-copy-out-buycount c = omega (arith, c .before .before .before .before .before .before .pre .few)
-
-mul-sellcount : tie.Need-mul-sellcount Inv-loop μ-loop
-mul-sellcount c = omega (arith, c .before .before .before .before .before .before .before .pre .few)
-
-element-copy-out-sellcount : tie.Need-element-copy-out-sellcount Inv-loop μ-loop
-element-copy-out-sellcount c = omega (arith, c .before .before .before .before .before .before .before .pre .few)
-
-settlement-price-requires : tie.Need-settlement-price-requires Inv-loop μ-loop
-settlement-price-requires c κs = c .before .before .before .before .before .before .before .before .pre .each _ (c .before .before .before .loop-test .taken)
-
-mul-prices : tie.Need-mul-prices Inv-loop μ-loop
-mul-prices c = omega (arith, c .before .before .before .before .before .before .before .before .before .pre .few)
-
-array-write-prices : tie.Need-array-write-prices Inv-loop μ-loop
-array-write-prices c = omega (arith, c .before .before .before .before .before .before .before .before .before .pre .few)
-
-add-c : tie.Need-add-c Inv-loop μ-loop
-add-c c = omega (arith, c .before .before .before .before .before .before .before .before .before .pre .few)
-
-loop-less : tie.Need-loop-less Inv-loop μ-loop
-loop-less c = omega arith
+-- back to the turn's begin
+abbrev Turn : tie.After-settlement-price Inv-loop μ-loop → tie.In-loop Inv-loop μ-loop
+Turn c = c .before .before .before .before
 
 loop-again : tie.Need-loop-again Inv-loop μ-loop
-loop-again c = writing-more _ _ _ (c .before .before .before .before .before .before .before .before .before .pre .few) _ _ _ (c .before .before .before .before .loop-test .taken) (price-in-use _ _ (c .before .before .before .before .loop-test .taken) _ (c .settlement-price .ensures)) (c .before .before .before .before .before .loop .inv)
-
-returns : tie.Need-returns Inv-loop μ-loop
-returns c = prices-done _ _ _ (c .loop-test .left) (c .before .loop .inv)
+loop-again c =
+    writing-more _ _ _ (Begun (Turn c) .pre .few) _ _ _ (c .before .before .before .before .loop-test .taken)
+    (price-in-use _ _ (c .before .before .before .before .loop-test .taken) _ (c .settlement-price .ensures)) (Turn c .before .loop .inv)
 
 pub prices-due-spec : {M : Type 1} → statement M
-prices-due-spec =
-    tie.close
-    (tie.spec
+prices-due-spec = tie.close (tie.spec
     Inv-loop
     μ-loop
-    loop-holds
-    mul-contract
-    element-copy-out-contract
-    mul-buycount
-    element-copy-out-buycount
-    mul-sellcount
-    element-copy-out-sellcount
-    settlement-price-requires
-    mul-prices
-    array-write-prices
-    add-c
-    loop-less
+    (λ c. writing-none _ _ _)  -- loop-holds
+    (λ c. omega (arith, Begun c .pre .few))  -- mul-contract
+    (λ c. omega (arith, Begun c .pre .few))  -- element-copy-out-contract
+    (λ c. omega (arith, Begun (c .before) .pre .few))  -- mul-buycount
+    (λ c. omega (arith, Begun (c .before) .pre .few))  -- element-copy-out-buycount
+    (λ c. omega (arith, Begun (c .before .before) .pre .few))  -- mul-sellcount
+    (λ c. omega (arith, Begun (c .before .before) .pre .few))  -- element-copy-out-sellcount
+    (λ c κs. Begun (c .before .before .before) .pre .each _ (c .before .before .before .loop-test .taken))  -- settlement-price-requires
+    (λ c. omega (arith, Begun (Turn c) .pre .few))  -- mul-prices
+    (λ c. omega (arith, Begun (Turn c) .pre .few))  -- array-write-prices
+    (λ c. omega (arith, Begun (Turn c) .pre .few))  -- add-c
+    (λ c. omega arith)  -- loop-less
     loop-again
-    returns)
+    (λ c. prices-done _ _ _ (c .loop-test .left) (c .before .loop .inv)))  -- returns

@@ -17,53 +17,35 @@ Inv-loop out₀ at clients closing holding next₀ k₀ out next k = Telling (λ
 abbrev μ-loop : tie.MeasureT-loop
 μ-loop out₀ at clients closing holding next₀ k₀ out next k = clients - k
 
-loop-holds : tie.Need-loop-holds Inv-loop μ-loop
-loop-holds c = telling-none _ _ _ _ (omega (arith, c .before .pre .1))
+-- back to the start
+abbrev Begun : tie.After-put-profit-arg Inv-loop μ-loop → tie.Start Inv-loop μ-loop
+Begun c = c .before .before .before .before .before .before
 
-mul-closed : tie.Need-mul-closed Inv-loop μ-loop
-mul-closed c = omega (arith, c .before .before .before .pre .0)
-
-array-copy-out-closed : tie.Need-array-copy-out-closed Inv-loop μ-loop
-array-copy-out-closed c = omega (arith, c .before .before .before .pre .0)
-
-mul-held : tie.Need-mul-held Inv-loop μ-loop
-mul-held c = omega (arith, c .before .before .before .before .pre .0)
-
-array-copy-out-held : tie.Need-array-copy-out-held Inv-loop μ-loop
-array-copy-out-held c = omega (arith, c .before .before .before .before .pre .0)
+-- back to where `closed` is known
+abbrev Closed : tie.After-slice-known2 Inv-loop μ-loop → tie.After-closed Inv-loop μ-loop
+Closed c = c .before .before .before .before .before
 
 put-profit-requires : tie.Need-put-profit-requires Inv-loop μ-loop
-put-profit-requires c κs = telling-fits _ _ _ _ _ _ _ (c .before .before .before .loop-test .taken) (c .before .before .before .before .loop .inv) (length-profit _ _) (c .before .before .before .before .before .before .pre .1)
-
-add-k : tie.Need-add-k Inv-loop μ-loop
-add-k c = omega (arith, c .before .before .before .before .before .before .before .before .before .pre .0)
-
-loop-less : tie.Need-loop-less Inv-loop μ-loop
-loop-less c = omega arith
+put-profit-requires c κs = telling-fits _ _ _ _ _ _ _ (c .before .before .before .loop-test .taken) (c .before .before .before .before .loop .inv) (length-profit _ _) (Begun c .pre .1)
 
 loop-again : tie.Need-loop-again Inv-loop μ-loop
-loop-again c = telling-more _ _ _ _ _ _ _ (c .before .before .before .before .before .before .loop-test .taken) (c .before .before .before .before .before .before .before .loop .inv) (rw (toZ-ofZ {w = w64} (record { sfits = c .before .before .before .before .before .closed .given }), toZ-ofZ {w = w64} (record { sfits = c .before .before .before .before .held .given })) at (c .before .before .put-profit .ensures))
-
-same-length : tie.Need-same-length Inv-loop μ-loop
-same-length c = c .before .loop .inv .row .kept
-
-returns : tie.Need-returns Inv-loop μ-loop
-returns c = telling-done _ _ _ _ _ _ _ (c .loop-test .left) (c .before .loop .inv)
+loop-again c =
+    telling-more _ _ _ _ _ _ _ (Closed c .before .loop-test .taken) (Closed c .before .before .loop .inv)
+    (rw (toZ-ofZ {w = w64} (record { sfits = Closed c .closed .given }), toZ-ofZ {w = w64} (record { sfits = c .before .before .before .before .held .given })) at
+    (c .before .before .put-profit .ensures))
 
 pub put-profits-spec : {M : Type 1} → statement M
-put-profits-spec =
-    tie.close
-    (tie.spec
+put-profits-spec = tie.close (tie.spec
     Inv-loop
     μ-loop
-    loop-holds
-    mul-closed
-    array-copy-out-closed
-    mul-held
-    array-copy-out-held
+    (λ c. telling-none _ _ _ _ (omega (arith, c .before .pre .1)))  -- loop-holds
+    (λ c. omega (arith, c .before .before .before .pre .0))  -- mul-closed
+    (λ c. omega (arith, c .before .before .before .pre .0))  -- array-copy-out-closed
+    (λ c. omega (arith, c .before .before .before .before .pre .0))  -- mul-held
+    (λ c. omega (arith, c .before .before .before .before .pre .0))  -- array-copy-out-held
     put-profit-requires
-    add-k
-    loop-less
+    (λ c. omega (arith, Begun (c .before .before .before) .pre .0))  -- add-k
+    (λ c. omega arith)  -- loop-less
     loop-again
-    same-length
-    returns)
+    (λ c. c .before .loop .inv .row .kept)  -- same-length
+    (λ c. telling-done _ _ _ _ _ _ _ (c .loop-test .left) (c .before .loop .inv)))  -- returns

@@ -18,46 +18,42 @@ Inv-loop area count out₀ at next₀ i₀ out next i = Telling (λ j. tradeByte
 abbrev μ-loop : tie.MeasureT-loop
 μ-loop area count out₀ at next₀ i₀ out next i = count - i
 
-loop-holds : tie.Need-loop-holds Inv-loop μ-loop
-loop-holds c = telling-none _ _ _ _ (omega (arith, c .before .before .pre .0 .1))
+-- back to the loop's head
+abbrev Head : tie.After-trade-at Inv-loop μ-loop → tie.At-loop Inv-loop μ-loop
+Head c = c .before .before
 
-trade-at-requires : tie.Need-trade-at-requires Inv-loop μ-loop
-trade-at-requires c κs = omega (arith, c .before .before .before .before .pre .0 .0)
+-- back to the call of `trade-at`
+abbrev Trade-at : tie.After-put-trade Inv-loop μ-loop → tie.After-trade-at Inv-loop μ-loop
+Trade-at c = c .before .before
 
 -- the trade read is the one recorded there
 the-trade : (c : tie.After-trade-at Inv-loop μ-loop)
-    → c .trade-at .result ≡ getD (recordedTrades (c .before .before .before .before .before .args .area .now) (c .before .before .before .before .before .args .count)) (c .before .before .loop .i) noTrade
+    → c .trade-at .result ≡ getD (recordedTrades (Head c .before .before .before .args .area .now) (Head c .before .before .before .args .count)) (c .before .before .loop .i) noTrade
 the-trade c = c .trade-at .ensures ∙ sym (trade-at _ _ _ (c .before .loop-test .taken))
 
 put-trade-requires : tie.Need-put-trade-requires Inv-loop μ-loop
-put-trade-requires c κs = rw (the-trade (c .before)) (telling-room _ _ _ _ _ _ _ (c .before .before .loop-test .taken) (c .before .before .before .loop .inv) (rw (trades-row _ _) at (c .before .before .before .before .before .before .pre .0 .1)), c .before .before .before .before .before .before .pre .1 _ (c .before .before .loop-test .taken))
-
-add-i : tie.Need-add-i Inv-loop μ-loop
-add-i c = omega arith
-
-loop-less : tie.Need-loop-less Inv-loop μ-loop
-loop-less c = omega arith
+put-trade-requires c κs =
+    rw (the-trade (c .before)) (
+      telling-room _ _ _ _ _ _ _ (c .before .before .loop-test .taken) (c .before .before .before .loop .inv)
+          (rw (trades-row _ _) at (Head (c .before) .before .before .before .pre .0 .1)),
+      Head (c .before) .before .before .before .pre .1 _ (c .before .before .loop-test .taken),
+    )
 
 loop-again : tie.Need-loop-again Inv-loop μ-loop
-loop-again c = telling-more _ _ _ _ _ _ _ (c .before .before .before .before .before .loop-test .taken) (c .before .before .before .before .before .before .loop .inv) (rw (the-trade (c .before .before .before .before)) at (c .before .before .put-trade .ensures))
-
-same-length : tie.Need-same-length Inv-loop μ-loop
-same-length c = c .before .loop .inv .row .kept
-
-returns : tie.Need-returns Inv-loop μ-loop
-returns c = rw (trades-row _ _) (telling-done _ _ _ _ _ _ _ (c .loop-test .left) (c .before .loop .inv))
+loop-again c =
+    let trade-at = Trade-at (c .before .before) in
+    telling-more _ _ _ _ _ _ _ (trade-at .before .loop-test .taken) (trade-at .before .before .loop .inv)
+    (rw (the-trade (c .before .before .before .before)) at (c .before .before .put-trade .ensures))
 
 pub put-trades-spec : {M : Type 1} → statement M
-put-trades-spec =
-    tie.close
-    (tie.spec
+put-trades-spec = tie.close (tie.spec
     Inv-loop
     μ-loop
-    loop-holds
-    trade-at-requires
+    (λ c. telling-none _ _ _ _ (omega (arith, c .before .before .pre .0 .1)))  -- loop-holds
+    (λ c κs. omega (arith, c .before .before .before .before .pre .0 .0))  -- trade-at-requires
     put-trade-requires
-    add-i
-    loop-less
+    (λ c. omega arith)  -- add-i
+    (λ c. omega arith)  -- loop-less
     loop-again
-    same-length
-    returns)
+    (λ c. c .before .loop .inv .row .kept)  -- same-length
+    (λ c. rw (trades-row _ _) (telling-done _ _ _ _ _ _ _ (c .loop-test .left) (c .before .loop .inv))))  -- returns
