@@ -137,7 +137,7 @@ class Content(unittest.TestCase):
         self.assertEqual([row.number for row in section.rows], ["1.1", "1.2"])
         first = section.rows[0]
         self.assertEqual(first.named("definition"), ["definition-rules-Matching-sweep"])
-        self.assertEqual(first.named("law"), ["law-rules-AuctionOutcome-auction-lots"])
+        self.assertEqual(first.named("law"), ["law-theory-AuctionOutcome-auction-lots"])
         self.assertEqual(first.named("case"), ["case-rules-MatchingExamples"])
 
 
