@@ -1,5 +1,7 @@
 // Words moved and cleared in a lent area. What the words mean as records stands in specs/, and its laws in proofs/.
 // For the crates of this repository: a function with a `requires` says in words what its caller has to show.
+#![tactic(auto)]
+
 ghost use Rattle.std.specs.Prelude.{◌≡◌, ◌≤◌, length, replicate};
 ghost use Rattle.areas.specs.Moves.{closed_up, moved_back, moved_forward};
 

@@ -1,4 +1,6 @@
 // Whether a state and the areas lent with it are well formed: the test of code 21, for anything at all.
+#![tactic(auto)]
+
 ghost use Rattle.std.specs.Prelude.{true, ◌≡◌};
 ghost use Rattle.rules.specs.Memory.{counts_in_range, exchange_of, has_room, well_formed_memory, memory};
 ghost use Rattle.rules.specs.WellFormed.{well_formed_contents};

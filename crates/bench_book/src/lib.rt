@@ -1,5 +1,7 @@
 // The order book's calls for the benchmark, which is written in Rust. For the benchmark alone: each asks for what the book's own
 // function asks.
+#![tactic(auto)]
+
 ghost use Rattle.std.specs.Prelude.{◌≡◌, ◌+◌, ◌≤◌, length};
 ghost use Rattle.areas.specs.Lists.{remove_at};
 ghost use Rattle.rules.specs.Command.{price_condition};

@@ -1,6 +1,8 @@
 // The run of a list of commands for the benchmark, which is written in Rust, and what it asks of the state that a run leaves. For the
 // benchmark alone: the call asks for a sound day file and for places that exist. No other call stands here, so that the engine's step has
 // one caller.
+#![tactic(auto)]
+
 ghost use Rattle.std.specs.Prelude.{true, ◌≡◌, ◌<◌};
 ghost use Rattle.rules.specs.Bounds.{max_contracts, max_accounts};
 ghost use Rattle.rules.specs.DayFile.{sound};

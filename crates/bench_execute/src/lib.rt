@@ -1,5 +1,7 @@
 // The test of a whole state and one command by itself, for the benchmark, which is written in Rust: each behind the run of a list. For the
 // benchmark alone: each call asks for a sound day file, and for places that exist.
+#![tactic(auto)]
+
 ghost use Rattle.std.specs.Prelude.{true, ◌≡◌, ◌<◌};
 ghost use Rattle.rules.specs.Bounds.{max_contracts, max_accounts};
 ghost use Rattle.rules.specs.DayFile.{command_from, sound};

@@ -1,6 +1,8 @@
 // Changing a resting order (document 02, ticket 8). For our own crates: it asks for a well-formed state.
 //
 // A change that loses its place takes its order out, is tested on the contract without it, and then arrives as any order does.
+#![tactic(auto)]
+
 ghost use Rattle.std.specs.Prelude.{true, ◌≡◌, ◌+◌, ◌<◌, ◌≤◌, eqb, length};
 ghost use Rattle.laws.specs.Choice.{pick};
 ghost use Rattle.rules.specs.Answers as answer;

@@ -1,5 +1,7 @@
 // A command's record as a command: kind, flags, and the fields that its kind leaves unused. Every record has an answer; what
 // document 01 gives code 1 is `Malformed`.
+#![tactic(auto)]
+
 ghost use Rattle.std.specs.Prelude.{◌≡◌, [], ◌∷◌};
 ghost use Rattle.rules.specs.Command.{zeros, price_condition, time_condition, insert_flags, new_order, deposit_of, withdraw_of, insert_of, cancel_of, pull_of, phase_of, settle_of, quote_of, change_of, command_of, kind_number, is_malformed, is_settle};
 ghost use Rattle.commands.specs.Accounts.{account_number, place_among};

@@ -1,5 +1,7 @@
 // The day runner: a day file on standard input, its lines on standard output; what is to be said of a write that failed, on standard
 // error. It chooses nothing by itself.
+#![tactic(auto)]
+
 use libc::{STDERR_FILENO, STDIN_FILENO, STDOUT_FILENO};
 
 fn main() {

@@ -1,4 +1,6 @@
 // Bytes: little-endian numbers, signed ones too, and a command's record read, and numbers and parts of a file written into a lent area.
+#![tactic(auto)]
+
 pub mod reading;
 pub mod writing;
 

@@ -1,4 +1,6 @@
 // Deposit, withdraw, cancel and pull, each on a well-formed state and the areas lent with it.
+#![tactic(auto)]
+
 pub mod answers;
 pub mod payments;
 pub mod removal;

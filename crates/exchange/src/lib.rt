@@ -1,4 +1,6 @@
 // The library's public calls over the engine: one command on any state, and a list of commands.
+#![tactic(auto)]
+
 pub mod execute;
 pub mod run;
 pub mod settling;

@@ -1,4 +1,6 @@
 // A trade's legs on the holdings (document 01, "Matching"). For our own crates: each asks that no holding is near its width.
+#![tactic(auto)]
+
 ghost use Rattle.std.specs.Prelude.{◌≡◌, ◌-◌, ◌<◌, ◌≤◌, get_or};
 ghost use Rattle.rules.specs.Bounds.{max_contracts, max_lots};
 ghost use Rattle.rules.specs.Exchange.{no_holding};

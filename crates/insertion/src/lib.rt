@@ -3,6 +3,8 @@
 //
 // An order that meets no counterpart rests without the accounts (`arrive`); one that trades is given all of them (`trade`). So the accounts
 // are copied only where they change.
+#![tactic(auto)]
+
 ghost use Rattle.std.specs.Prelude.{◌≡◌, ◌≤◌, length};
 ghost use Rattle.rules.specs.Memory.{first_word, memory, queue_in, WellFormedState};
 ghost use Rattle.rules.specs.declared.Command.TheVariants.{Insert};

@@ -1,4 +1,6 @@
 // Small functions on numbers that every crate above uses. The definitions and laws that the crates share stand in specs/ and proofs/.
+#![tactic(auto)]
+
 ghost use Rattle.std.specs.Prelude.{◌≡◌, min, max, ◌-◌, ◌≤◌};
 
 pub fn smaller(a: u32, b: u32) -> u32

@@ -1,5 +1,7 @@
 // Margin: the charge for one lot, an account's charged margin, and whether a balance is too little for it. For our own crates: each
 // asks for values in the ranges of a well-formed state, so that no product passes its width.
+#![tactic(auto)]
+
 ghost use Rattle.std.specs.Prelude.{◌≡◌, ◌*◌, ◌≤◌, max, pos};
 ghost use Rattle.std.specs.Int.Signed.{lt_z};
 ghost use Rattle.rules.specs.Margin as margin;

@@ -1,5 +1,7 @@
 // Changes of a contract's state, with the match where it leaves auction (document 02, ticket 4). For our own crates: each asks for a
 // well-formed state.
+#![tactic(auto)]
+
 ghost use Rattle.std.specs.Prelude.{◌≡◌, true, ◌≤◌, ◌<◌};
 ghost use Rattle.rules.specs.Bounds.{max_contracts, phase_known, continuous};
 ghost use Rattle.rules.specs.Answers.{changeListed};

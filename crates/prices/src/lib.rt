@@ -1,4 +1,6 @@
 // Counterparts and trade prices (document 01, "Matching"; document 02, ticket 6).
+#![tactic(auto)]
+
 ghost use Rattle.std.specs.Prelude.{◌≡◌, ◌≤◌};
 ghost use Rattle.rules.specs.Matching as matching;
 ghost use Rattle.prices.specs.Methods.{HasTick};

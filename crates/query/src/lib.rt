@@ -1,5 +1,7 @@
 // How much could I get? What an order would trade now, asked without sending it: the areas are lent for reading only, and nothing is
 // changed.
+#![tactic(auto)]
+
 ghost use Rattle.std.specs.Prelude.{true, ◌≡◌};
 ghost use Rattle.rules.specs.Answers.{fieldsRefusals};
 ghost use Rattle.rules.specs.Answers as answer;

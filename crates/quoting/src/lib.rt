@@ -1,6 +1,8 @@
 // Quotes from market makers (document 02, ticket 7). For our own crates: it asks for a well-formed state. A refused quote leaves every
 // area as it was: the words of the contract's two queues, and of the trades that the buy can make, are kept before anything is written
 // and put back.
+#![tactic(auto)]
+
 ghost use Rattle.std.specs.Prelude.{false, ◌≡◌, ◌+◌, ◌≤◌, length, get_or, take, drop};
 ghost use Rattle.areas.specs.Lists.{over};
 ghost use Rattle.rules.specs.Answers as answer;

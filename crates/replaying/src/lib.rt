@@ -1,5 +1,7 @@
 // The day's trades replayed over accounts, for the test of a state and for an account's clients. For our own crates: it asks for
 // trades of contracts and accounts in use, and for holdings that no day's trades lift past their width.
+#![tactic(auto)]
+
 ghost use Rattle.std.specs.Prelude.{[], ◌∷◌, ◌≡◌, ◌<◌};
 ghost use Rattle.rules.specs.Bounds.{max_contracts};
 ghost use Rattle.rules.specs.Holdings.{leg_covered};

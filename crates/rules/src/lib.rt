@@ -5,6 +5,8 @@
 //
 // A record with `#[repr(C)]` lies in memory as a C compiler lays it out: programs in other languages hand it in as it is.
 
+#![tactic(auto)]
+
 pub mod sizes;
 
 // "Numbers that bound everything", by the names that they have in specs/ (Bounds, Memory, DayFile).

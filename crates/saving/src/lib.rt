@@ -1,5 +1,7 @@
 // Continue tomorrow (ticket 10 of document 02): the state written to bytes after settlement, and read again. The state's areas are lent
 // for reading only: nothing in them is in use in a state that is saved, and reading leaves them as they are.
+#![tactic(auto)]
+
 ghost use Rattle.std.specs.Prelude.{◌≡◌};
 ghost use Rattle.rules.specs.Memory.{memory, well_formed_memory};
 ghost use Rattle.statefile.specs.StateFile.{WrittenIs, ReadIs};

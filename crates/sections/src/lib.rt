@@ -1,5 +1,7 @@
 // What the files of client statements and of saved states share (tickets 9 and 10 of document 02): sections, each after its count, and
 // the holdings of accounts. For the crates of this repository: each call requires room for its bytes, and gives the place after them.
+#![tactic(auto)]
+
 ghost use Rattle.std.specs.Prelude.{◌+◌, ◌≤◌, length};
 ghost use Rattle.rules.specs.Bounds.{max_contracts, max_accounts};
 ghost use Rattle.endian.specs.Written.{Written};

@@ -1,5 +1,7 @@
 // Client statements (ticket 9 of document 02): the orders of one account posted to its clients, and each client's trades, holdings and
 // profit told as bytes. The state and its areas are lent for reading only.
+#![tactic(auto)]
+
 ghost use Rattle.std.specs.Prelude.{◌≡◌};
 ghost use Rattle.rules.specs.Memory.{memory};
 ghost use Rattle.statements.specs.Parts.{broker, refused_with};

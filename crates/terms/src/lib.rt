@@ -1,4 +1,6 @@
 // The tests of a contract's terms, which a day file and a well-formed state share.
+#![tactic(auto)]
+
 ghost use Rattle.std.specs.Prelude.{true, ◌≡◌, ◌≤◌};
 ghost use Rattle.rules.specs.Bounds.{within as Bounds·within, on_tick, tick_multiple, terms_in_range, day_low, day_high, allowed_today};
 

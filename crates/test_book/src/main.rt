@@ -1,5 +1,7 @@
 // Worked examples on the book's own code: 001, 4.3.2.1, and document 01's fillable lots. Every order goes through `enter`; what
 // it trades and rests is printed, and at the end what stands in the book.
+#![tactic(auto)]
+
 ghost use Rattle.std.specs.Prelude.{true, ◌≡◌, ◌≤◌};
 ghost use Rattle.rules.specs.Bounds.{max_resting};
 ghost use Rattle.rules.specs.declared.PairingMethod.TheVariants.{Middle};

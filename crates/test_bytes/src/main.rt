@@ -30,6 +30,8 @@
 //   27  each kind, well formed and malformed
 //   28  a maker with a balance of 10^18
 //   29  a maker with a balance of 10^18 + 1
+#![tactic(auto)]
+
 ghost use Rattle.std.specs.Prelude.{true, ◌≡◌, ◌<◌};
 ghost use Rattle.rules.specs.DayFile.{sound};
 

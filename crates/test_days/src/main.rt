@@ -1,5 +1,7 @@
 // A test of the day runner: for each file that `list` names in the data folder, the name and then all that the runner prints; then
 // what is said of writes that fail. What must come out was made by the model (`tools/make_test_days.py`).
+#![tactic(auto)]
+
 ghost use Rattle.std.specs.Prelude.{◌≤◌, length};
 
 use libc::STDOUT_FILENO;

@@ -1,5 +1,7 @@
 // Vectors, made by the model (`tools/make_vectors.py`), run on the proved public calls: for each file that `list` names in the data
 // folder, how many vectors it has and how many of them differ in the answer, in the state, or in a word or byte of an area.
+#![tactic(auto)]
+
 ghost use Rattle.std.specs.Prelude.{◌≤◌, length};
 
 mod calls;

@@ -1,5 +1,7 @@
 // A day file's output written to a file descriptor, part by part: the loop of our programs, which leaves every choice to the library. No
 // promise can tell what a write does with its bytes; which bytes they are is what `runner::output::lines` promises.
+#![tactic(auto)]
+
 ghost use Rattle.writer.specs.Notes.{ANote};
 
 use runner::output::{BUFFER, Note, goes_on, lines, note_of};

@@ -9,16 +9,16 @@ returns c =
     let cleared = c.before.before in
     let moved = cleared.before.before.before.before in
     let start = moved.before.before.before in
-    moved_cleared _ _ _ _ start.requires moved.move-forward.ensures cleared.clear.ensures
+    moved_cleared _ _ _ _ start.requires moved.move_forward.ensures cleared.clear.ensures
 
-pub close-up-spec : {M : Type 1} → statement M
-close-up-spec = tie.close (tie.spec
-    (λ c κs. search rules)  -- move-forward-requires
-    (λ c. search rules)  -- sub-kept
-    (λ c. search rules)  -- mul-clear
-    (λ c. search rules)  -- sub-clear
-    (λ c. search rules)  -- part-clear-start
-    (λ c. search rules)  -- part-clear-end
+pub close_up_spec : {M : Type 1} → statement M
+close_up_spec = tie.close (tie.spec
+    (λ c κs. search rules)  -- move_forward-requires
+    (λ c. search rules)  -- overflow_sub-kept
+    (λ c. search rules)  -- offset_bounds-part-kept
+    (λ c. search rules)  -- slice_bounds-clear-count
+    (λ c. search rules)  -- slice_bounds-clear-start
+    (λ c. search rules)  -- slice_bounds-clear-end
     (λ c κs. search rules)  -- clear-requires
-    (λ c. search rules)  -- same-length
+    (λ c. search rules)  -- shape_of-part
     returns)
