@@ -1,6 +1,6 @@
 -- The price of an auction: a resting price, and no resting price is better by the four steps, so none has a larger volume. There is
 -- only one such price, so it does not matter in which order they are looked at. Assumes nothing.
-use Rattle.laws.specs.Logic.{Bool, true, false, not, ◌||◌, false≢true, List, [], ◌∷◌, ◌⊎◌, inl, inr, ◌≡◌, refl, sym, ap, ◌∙◌}
+use Rattle.laws.specs.Logic.{Bool, true, false, not, ◌||◌, false≢true, List, [], ◌∷◌, ◌⊎◌, inl, inr, ◌≡◌, refl, sym, subst, ap, ◌∙◌}
 use Rattle.laws.specs.Numbers.{ℕ, ◌<◌, ◌≤◌, arith, eqb-true, eqb-false, ltb-true, ltb-false, eq-eqb, ne_eqb, le-leb, le-ltb, not-true, eqb, leb, ltb, length}
 use Rattle.laws.specs.Choice.{pick, pick_true, pick_false, all_of, all_of_imp, both_true, true_both, either_true, true_either, by_test}
 use Rattle.rules.specs.declared.Order.{Order}
@@ -140,7 +140,8 @@ module _ (preferred : ℕ → ℕ → Bool) (asym : (p q : ℕ) → preferred p 
       cases false e ih =
           let b = best_from preferred first ps in
           let i = ih first in
-          rw (pick_false (preferred p first) p first e)
+          subst (λ (k : ℕ). (preferred first (best_from preferred k ps) ≡ false) × (all_of (λ p'. not (preferred p' (best_from preferred k ps))) (p ∷ ps) ≡ true))
+          (sym (pick_false (preferred p first) p first e))
           (i.0, true_both (not (preferred p b)) (all_of (λ k. not (preferred k b)) ps) (ap not (trans b first p i.0 e)) i.1)
 
   -- none is preferred to it

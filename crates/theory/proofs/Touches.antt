@@ -132,7 +132,7 @@ without_where test (o ∷ os) = by_test (test o) (without_where test os)
 pub own_without : (x : Exchange) (c : ℕ) (test : Order → Bool) → c < length x.listings → (sell : Bool) →
     own sell (listing_at (with_listing x c (listing_without test (listing_at x c))) c) ≡ without test (own sell (listing_at x c))
 own_without x c test there sell = ap (own sell) (relisted x c (listing_without test (listing_at x c)) there)
-    ∙ (elim sell [ false ↦ refl | true ↦ refl ])
+    ∙ (elim sell as (λ s. own s (listing_without test (listing_at x c)) ≡ without test (own s (listing_at x c))) [ false ↦ refl | true ↦ refl ])
 
 -- an account's orders where none of those taken out is its own
 module _ (a : ℕ) where
