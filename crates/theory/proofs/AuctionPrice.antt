@@ -128,6 +128,12 @@ module _ (preferred : ℕ → ℕ → Bool) (asym : (p q : ℕ) → preferred p 
   best_from_lem first [] = (by_test (preferred first first) (λ e. asym first first e) (λ e. e), refl)
   best_from_lem first (p ∷ ps) = cases (preferred p first) refl (λ k. best_from_lem k ps)
     where
+      IsBest : ℕ → Type 0
+      IsBest k = (preferred first (best_from preferred k ps) ≡ false) × (all_of (λ p'. not (preferred p' (best_from preferred k ps))) (p ∷ ps) ≡ true)
+
+      at_best : (k : ℕ) → pick (preferred p first) p first ≡ k → IsBest k → IsBest (pick (preferred p first) p first)
+      at_best k e b = subst IsBest (sym e) b
+
       cases : (t : Bool) → preferred p first ≡ t
           → ((k : ℕ) → (preferred k (best_from preferred k ps) ≡ false) × (all_of (λ p. not (preferred p (best_from preferred k ps))) ps ≡ true))
           → (preferred first (best_from preferred (pick (preferred p first) p first) ps) ≡ false)
@@ -135,13 +141,12 @@ module _ (preferred : ℕ → ℕ → Bool) (asym : (p q : ℕ) → preferred p 
       cases true e ih =
           let b = best_from preferred p ps in
           let i = ih p in
-          rw (pick_true (preferred p first) p first e)
+          at_best p (pick_true (preferred p first) p first e)
           (trans b p first i.0 (asym p first e), true_both (not (preferred p b)) (all_of (λ k. not (preferred k b)) ps) (ap not i.0) i.1)
       cases false e ih =
           let b = best_from preferred first ps in
           let i = ih first in
-          subst (λ (k : ℕ). (preferred first (best_from preferred k ps) ≡ false) × (all_of (λ p'. not (preferred p' (best_from preferred k ps))) (p ∷ ps) ≡ true))
-          (sym (pick_false (preferred p first) p first e))
+          at_best first (pick_false (preferred p first) p first e)
           (i.0, true_both (not (preferred p b)) (all_of (λ k. not (preferred k b)) ps) (ap not (trans b first p i.0 e)) i.1)
 
   -- none is preferred to it

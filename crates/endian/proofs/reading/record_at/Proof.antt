@@ -10,31 +10,31 @@ returns c =
     let b = c.before.before.before in
     let d = b.before.before.before in
     rw (
-      d.before.u8-at.ensures,
-      d.u8-at2.ensures,
-      b.before.before.u8-at3.ensures,
-      b.before.u8-at4.ensures,
-      b.u32-at.ensures,
-      c.before.before.u32-at2.ensures,
-      c.before.u32-at3.ensures,
-      c.u64-at.ensures,
+      d.before.u8_at-kind.ensures,
+      d.u8_at-account.ensures,
+      b.before.before.u8_at-contract.ensures,
+      b.before.u8_at-flags.ensures,
+      b.u32_at-lots.ensures,
+      c.before.before.u32_at-price.ensures,
+      c.before.u32_at-number.ensures,
+      c.u64_at-amount.ensures,
     )
 
-pub record-at-spec : {M : Type 1} → statement M
-record-at-spec = tie.close (tie.spec
-    (λ c κs. search rules)  -- u8-at-requires
-    (λ c. search rules)  -- add-u8-at
-    (λ c κs. search rules)  -- u8-at-requires-2
-    (λ c. search rules)  -- add-u8-at-2
-    (λ c κs. search rules)  -- u8-at-requires-3
-    (λ c. search rules)  -- add-u8-at-3
-    (λ c κs. search rules)  -- u8-at-requires-4
-    (λ c. search rules)  -- add-u32-at
-    (λ c κs. search rules)  -- u32-at-requires
-    (λ c. search rules)  -- add-u32-at-2
-    (λ c κs. search rules)  -- u32-at-requires-2
-    (λ c. search rules)  -- add-u32-at-3
-    (λ c κs. search rules)  -- u32-at-requires-3
-    (λ c. search rules)  -- add-u64-at
-    (λ c κs. search rules)  -- u64-at-requires
+pub record_at_spec : {M : Type 1} → statement M
+record_at_spec = tie.close (tie.spec
+    (λ c κs. search rules)  -- u8_at-kind-requires
+    (λ c. search rules)  -- overflow_add-at
+    (λ c κs. search rules)  -- u8_at-account-requires
+    (λ c. search rules)  -- overflow_add-at-2
+    (λ c κs. search rules)  -- u8_at-contract-requires
+    (λ c. search rules)  -- overflow_add-at-3
+    (λ c κs. search rules)  -- u8_at-flags-requires
+    (λ c. search rules)  -- overflow_add-at-4
+    (λ c κs. search rules)  -- u32_at-lots-requires
+    (λ c. search rules)  -- overflow_add-at-5
+    (λ c κs. search rules)  -- u32_at-price-requires
+    (λ c. search rules)  -- overflow_add-at-6
+    (λ c κs. search rules)  -- u32_at-number-requires
+    (λ c. search rules)  -- overflow_add-at-7
+    (λ c κs. search rules)  -- u64_at-amount-requires
     returns)

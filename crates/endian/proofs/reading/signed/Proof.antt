@@ -7,8 +7,8 @@ use Rattle.endian.proofs.reading.signed.Tie as tie
 cast-result : tie.Need-overflow-cast-result
 cast-result c = search rules
 
-returns : tie.Need-returns
-returns c = as_it_is _ c.if1.true
+returns : tie.Need-returns-then-n-lt-SIGN_END
+returns c = as_it_is _ c.if-n-lt-SIGN_END.true
 
 sub-size : tie.Need-overflow-sub-size
 sub-size c = search rules
@@ -17,15 +17,15 @@ cast-opposite : tie.Need-overflow-cast-opposite
 cast-opposite c = search rules
 
 sub-opposite : tie.Need-overflow-sub-opposite
-sub-opposite c = opposite_fits _ c.if1.false
+sub-opposite c = opposite_fits _ c.if-n-lt-SIGN_END.false
 
 sub-result : tie.Need-overflow-sub-result
-sub-result c = below_fits _ c.if1.false
+sub-result c = below_fits _ c.if-n-lt-SIGN_END.false
 
-returns-2 : tie.Need-returns-2
-returns-2 c = below_is _ c.if1.false
+returns-2 : tie.Need-returns
+returns-2 c = below_is _ c.if-n-lt-SIGN_END.false
 
-pub signed-spec : {M : Type 1} → statement M
-signed-spec =
+pub signed_spec : {M : Type 1} → statement M
+signed_spec =
     tie.close
     (tie.spec cast-result returns sub-size cast-opposite sub-opposite sub-result returns-2)

@@ -7,19 +7,19 @@ use Rattle.endian.proofs.reading.u16_at.Tie as tie
 returns : tie.Need-returns
 unfolding u16_at
 returns c = rw (
-  c.before.before.wide-byte.ensures.0,
-  c.wide-byte2.ensures.0,
-  c.before.before.before.u8-at.ensures,
-  c.before.u8-at2.ensures,
+  c.before.before.wide_byte-low.ensures.0,
+  c.wide_byte-high.ensures.0,
+  c.before.before.before.u8_at.ensures,
+  c.before.u8_at-2.ensures,
 )
 
-pub u16-at-spec : {M : Type 1} → statement M
-u16-at-spec = tie.close (tie.spec
-    (λ c κs. search rules)  -- u8-at-requires
-    (λ c κs. search rules)  -- wide-byte-requires
-    (λ c. search rules)  -- add-u8-at
-    (λ c κs. search rules)  -- u8-at-requires-2
-    (λ c κs. search rules)  -- wide-byte-requires-2
-    (λ c. search rules)  -- mul-result
-    (λ c. search rules)  -- add-result
+pub u16_at_spec : {M : Type 1} → statement M
+u16_at_spec = tie.close (tie.spec
+    (λ c κs. search rules)  -- u8_at-requires
+    (λ c κs. search rules)  -- wide_byte-low-requires
+    (λ c. search rules)  -- overflow_add-at
+    (λ c κs. search rules)  -- u8_at-requires-2
+    (λ c κs. search rules)  -- wide_byte-high-requires
+    (λ c. search rules)  -- overflow_mul-result
+    (λ c. search rules)  -- overflow_add-result
     returns)

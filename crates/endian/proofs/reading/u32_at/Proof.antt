@@ -6,15 +6,15 @@ use Rattle.endian.proofs.reading.u32_at.Tie as tie
 
 returns : tie.Need-returns
 unfolding u32_at
-returns c = rw (c.before.u16-at.ensures, c.u16-at2.ensures)
+returns c = rw (c.before.u16_at-low.ensures, c.u16_at-high.ensures)
 
-pub u32-at-spec : {M : Type 1} → statement M
-u32-at-spec = tie.close (tie.spec
-    (λ c κs. search rules)  -- u16-at-requires
-    (λ c. search rules)  -- cast-low
-    (λ c. search rules)  -- add-u16-at
-    (λ c κs. search rules)  -- u16-at-requires-2
-    (λ c. search rules)  -- cast-high
-    (λ c. search rules)  -- mul-result
-    (λ c. search rules)  -- add-result
+pub u32_at_spec : {M : Type 1} → statement M
+u32_at_spec = tie.close (tie.spec
+    (λ c κs. search rules)  -- u16_at-low-requires
+    (λ c. search rules)  -- overflow_cast-low
+    (λ c. search rules)  -- overflow_add-at
+    (λ c κs. search rules)  -- u16_at-high-requires
+    (λ c. search rules)  -- overflow_cast-high
+    (λ c. search rules)  -- overflow_mul-result
+    (λ c. search rules)  -- overflow_add-result
     returns)

@@ -6,15 +6,15 @@ use Rattle.endian.proofs.reading.u64_at.Tie as tie
 
 returns : tie.Need-returns
 unfolding u64_at
-returns c = rw (c.before.u32-at.ensures, c.u32-at2.ensures)
+returns c = rw (c.before.u32_at-low.ensures, c.u32_at-high.ensures)
 
-pub u64-at-spec : {M : Type 1} → statement M
-u64-at-spec = tie.close (tie.spec
-    (λ c κs. search rules)  -- u32-at-requires
-    (λ c. search rules)  -- cast-low
-    (λ c. search rules)  -- add-u32-at
-    (λ c κs. search rules)  -- u32-at-requires-2
-    (λ c. search rules)  -- cast-high
-    (λ c. search rules)  -- mul-result
-    (λ c. search rules)  -- add-result
+pub u64_at_spec : {M : Type 1} → statement M
+u64_at_spec = tie.close (tie.spec
+    (λ c κs. search rules)  -- u32_at-low-requires
+    (λ c. search rules)  -- overflow_cast-low
+    (λ c. search rules)  -- overflow_add-at
+    (λ c κs. search rules)  -- u32_at-high-requires
+    (λ c. search rules)  -- overflow_cast-high
+    (λ c. search rules)  -- overflow_mul-result
+    (λ c. search rules)  -- overflow_add-result
     returns)

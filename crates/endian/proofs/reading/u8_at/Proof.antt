@@ -9,7 +9,7 @@ returns : tie.Need-returns
 unfolding u8_at
 returns c = refl
 
-pub u8-at-spec : {M : Type 1} → statement M
-u8-at-spec = tie.close (tie.spec
-    (λ c. search rules)  -- shared-slice-read-result
+pub u8_at_spec : {M : Type 1} → statement M
+u8_at_spec = tie.close (tie.spec
+    (λ c. search rules)  -- bounds-file-at
     returns)

@@ -6,8 +6,8 @@ use Rattle.endian.proofs.Signs.{Steps, steps}
 use Rattle.endian.proofs.writing.magnitude.Statement.{statement}
 use Rattle.endian.proofs.writing.magnitude.Tie as tie
 
-of-x : (c : tie.Then1) → Steps c.before.args.x
-of-x c = steps _ c.before.ranges.x (rw (to_z-of_z c.before.ranges.x) at c.if1.true)
+of-x : (c : tie.Then-x-lt0) → Steps c.before.args.x
+of-x c = steps _ c.before.ranges.x (rw (to_z-of_z c.before.ranges.x) at c.if-x-lt0.true)
 
 add-y : tie.Need-overflow-add-y
 add-y c = rw (to_z-of_z c.before.ranges.x) (of-x c).up
@@ -33,14 +33,14 @@ add-result c = rw (
 cast-result-2 : tie.Need-overflow-cast-result-2
 cast-result-2 c =
     let back = to_z-of_z c.before.ranges.x in
-    rw back (non_neg_lt_z c.before.args.x (rw back at c.if1.false), Fits-nat_abs tt c.before.ranges.x)
+    rw back (non_neg_lt_z c.before.args.x (rw back at c.if-x-lt0.false), Fits-nat_abs tt c.before.ranges.x)
 
-returns : tie.Need-returns
+returns : tie.Need-returns-then-x-lt0
 returns c = rw (to_z-of_z c.before.ranges.x, to_z-of_z (of-x c).up, to_z-of_z (of-x c).down) (of-x c).less
 
-returns-2 : tie.Need-returns-2
+returns-2 : tie.Need-returns-else-x-lt0
 returns-2 c = search rules
 
-pub magnitude-spec : {M : Type 1} → statement M
-magnitude-spec =
+pub magnitude_spec : {M : Type 1} → statement M
+magnitude_spec =
     tie.close (tie.spec add-y sub-z cast-result add-result cast-result-2 returns returns-2)

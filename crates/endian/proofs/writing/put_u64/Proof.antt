@@ -5,28 +5,28 @@ use Rattle.endian.proofs.writing.put_u64.Statement.{statement}
 use Rattle.endian.proofs.writing.put_u64.Tie as tie
 
 -- back to the call whose answer is `next`
-abbrev Next : tie.After-put-u322 → tie.After-put-u32
+abbrev Next : tie.After-put_u32 → tie.After-put_u32-next
 Next c = c.before.before.before.before
 
 cast-put-u32 : tie.Need-overflow-cast-put-u32
 cast-put-u32 c = search rules
 
-put-u32-requires : tie.Need-put-u32-requires
+put-u32-requires : tie.Need-put_u32-next-requires
 put-u32-requires c κs = search rules
 
 cast-put-u32-2 : tie.Need-overflow-cast-put-u32-2
 cast-put-u32-2 c = search rules
 
-put-u32-requires-2 : tie.Need-put-u32-requires-2
+put-u32-requires-2 : tie.Need-put_u32-requires
 put-u32-requires-2 c κs = search rules
 
-same_length : tie.Need-same-length
+same_length : tie.Need-shape_of-out
 same_length c = search rules
 
 returns : tie.Need-returns
-returns c = eight_bytes _ (Next c.before.before).put-u32.ensures c.before.before.put-u322.ensures
+returns c = eight_bytes _ (Next c.before.before).put_u32-next.ensures c.before.before.put_u32.ensures
 
-pub put-u64-spec : {M : Type 1} → statement M
-put-u64-spec =
+pub put_u64_spec : {M : Type 1} → statement M
+put_u64_spec =
     tie.close
     (tie.spec cast-put-u32 put-u32-requires cast-put-u32-2 put-u32-requires-2 same_length returns)

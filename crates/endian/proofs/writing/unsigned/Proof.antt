@@ -11,23 +11,23 @@ add-result c =
     omega (
       arith,
       some_below c.before.before.args.x _ c.before.before.ranges.x (rw (to_z-of_z c.before.before.ranges.x) at
-          c.before.magnitude.ensures) (rw (to_z-of_z c.before.before.ranges.x) at c.if1.true),
+          c.before.magnitude-size.ensures) (rw (to_z-of_z c.before.before.ranges.x) at c.if-x-lt0.true),
     )
 
-returns : tie.Need-returns
+returns : tie.Need-returns-then-x-lt0
 returns c =
-    unsigned_below c.before.before.args.x _ c.before.before.ranges.x (rw (to_z-of_z c.before.before.ranges.x) at c.before.magnitude.ensures)
-    (rw (to_z-of_z c.before.before.ranges.x) at c.if1.true)
+    unsigned_below c.before.before.args.x _ c.before.before.ranges.x (rw (to_z-of_z c.before.before.ranges.x) at c.before.magnitude-size.ensures)
+    (rw (to_z-of_z c.before.before.ranges.x) at c.if-x-lt0.true)
 
-returns-2 : tie.Need-returns-2
+returns-2 : tie.Need-returns
 returns-2 c =
-    unsigned_above c.before.before.args.x _ c.before.before.ranges.x (rw (to_z-of_z c.before.before.ranges.x) at c.before.magnitude.ensures)
-    (rw (to_z-of_z c.before.before.ranges.x) at c.if1.false)
+    unsigned_above c.before.before.args.x _ c.before.before.ranges.x (rw (to_z-of_z c.before.before.ranges.x) at c.before.magnitude-size.ensures)
+    (rw (to_z-of_z c.before.before.ranges.x) at c.if-x-lt0.false)
 
-pub unsigned-spec : {M : Type 1} → statement M
-unsigned-spec = tie.close (tie.spec
-    (λ c κs. search rules)  -- magnitude-requires
-    (λ c. search rules)  -- sub-result
+pub unsigned_spec : {M : Type 1} → statement M
+unsigned_spec = tie.close (tie.spec
+    (λ c κs. search rules)  -- magnitude-size-requires
+    (λ c. search rules)  -- overflow_sub-result
     add-result
     returns
     returns-2)
