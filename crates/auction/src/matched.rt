@@ -89,7 +89,7 @@ fn count_trades<'a>(
 
 // The accounts; lots traded, the last price, buys and sells filled, trades of the day. The array stands first, so that nothing
 // pads it and fewer copies of it are made.
-#[derive(Drop)]
+#[derive(Clone, Copy)]
 pub struct Fills {
     pub accounts: [Account; rules::MAX_ACCOUNTS],
     pub traded: u32,
@@ -184,7 +184,7 @@ pub fn trades_needed<'a>(
 }
 
 // The accounts, first as in `Fills`; lots traded, the last price, buys and sells that stay, trades of the day.
-#[derive(Drop)]
+#[derive(Clone, Copy)]
 pub struct Match {
     pub accounts: [Account; rules::MAX_ACCOUNTS],
     pub traded: u32,

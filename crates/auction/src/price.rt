@@ -10,7 +10,7 @@ use book::queue;
 use rules::Order;
 
 // A price, the lots that trade at it, and how many more there are on one side than on the other.
-#[derive(Drop)]
+#[derive(Clone, Copy)]
 pub struct Level {
     pub price: u32,
     pub volume: u64,

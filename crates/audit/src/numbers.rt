@@ -18,7 +18,7 @@ const MAX_LISTED: usize = 2 * rules::MAX_RESTING * rules::MAX_CONTRACTS;
 // Remainders that are told apart. At worst all values have the same few, and each is held against all behind it.
 const MARKS: usize = 4_096;
 
-#[derive(Drop)]
+#[derive(Clone, Copy)]
 struct Listed {
     list: [u32; MAX_LISTED],
     count: usize,

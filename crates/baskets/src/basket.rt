@@ -19,7 +19,7 @@ pub const MAX_BUNDLE: usize = 100;
 
 // 0, or the code that refuses the whole bundle, and the state after it.
 #[repr(C)]
-#[derive(Drop)]
+#[derive(Clone, Copy)]
 pub struct Receipt {
     pub code: u32,
     pub state: State,

@@ -13,7 +13,7 @@ use rules::State;
 
 // How many commands were played, and the state after them.
 #[repr(C)]
-#[derive(Drop)]
+#[derive(Clone, Copy)]
 pub struct Ran {
     pub played: usize,
     pub state: State,

@@ -59,7 +59,7 @@ pub extern "C" fn bench_cancel(area: &mut [u32], c: usize, count: usize, number:
 // An order, paired by the middle price: `kind` is its price condition (0 limit, 1 market, 2 best), `own`, `opposite` and `made` are the counts before it,
 // `held` the lots that each account holds of everything, `probe` the account whose holding is asked for.
 #[repr(C)]
-#[derive(Drop)]
+#[derive(Clone, Copy)]
 pub struct Sweeps {
     pub account: u32,
     pub contract: u32,
@@ -81,7 +81,7 @@ pub struct Sweeps {
 
 // The counts, the last price and one account's holding after the orders.
 #[repr(C)]
-#[derive(Drop)]
+#[derive(Clone, Copy)]
 pub struct Swept {
     pub own: usize,
     pub opposite: usize,

@@ -12,7 +12,7 @@ use rules::State;
 
 // What the benchmark asks about a state: an account's balance and holding, what changes of a contract, the counts.
 #[repr(C)]
-#[derive(Drop)]
+#[derive(Clone, Copy)]
 pub struct Probe {
     pub balance: i64,
     pub bought: usize,

@@ -29,7 +29,7 @@ pub extern "C" fn bench_test<'a>(
 
 // The bytes of one command.
 #[repr(C)]
-#[derive(Drop)]
+#[derive(Clone, Copy)]
 pub struct Single {
     pub bytes: [u8; rules::COMMAND_WIDTH],
 }

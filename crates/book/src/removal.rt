@@ -25,7 +25,7 @@ pub fn find(area: &[u32], c: usize, count: usize, number: u32) -> usize
 }
 
 // The orders that stay in a queue, and the lots taken out of it.
-#[derive(Drop)]
+#[derive(Clone, Copy)]
 pub struct Pulled {
     pub count: usize,
     pub lots: u64,

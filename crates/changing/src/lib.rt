@@ -22,7 +22,7 @@ use refusals::{codes, orders};
 use rules::{Account, Contract, NewOrder, Order, State};
 
 // "account, contract, order number, the new remaining lots and the price"
-#[derive(Drop)]
+#[derive(Clone, Copy)]
 pub struct Asked {
     pub account: u32,
     pub contract: u32,
@@ -32,7 +32,7 @@ pub struct Asked {
 }
 
 // The order with a number as it rests: whether there is one, its side, its place in the queue, the order itself.
-#[derive(Drop)]
+#[derive(Clone, Copy)]
 struct Resting {
     order: Order,
     place: usize,

@@ -15,7 +15,7 @@ use rules::Trade;
 const OTHERS: u32 = MAX_CLIENTS;
 
 // Whether the account's legs all have clients, and how many legs there are.
-#[derive(Drop)]
+#[derive(Clone, Copy)]
 pub struct Posting {
     pub all: bool,
     pub legs: usize,

@@ -107,7 +107,7 @@ pub fn opening_state(file: &[u8]) -> State
 // 0, or 20 where the file is broken; the place of the first command's first byte in the file, and the number of commands, 24 bytes
 // each; the state that the file's run begins with. With 20 all else is zero, and a call that tests the state refuses it with 21.
 #[repr(C)]
-#[derive(Drop)]
+#[derive(Clone, Copy)]
 pub struct Opened {
     pub code: u32,
     pub first: usize,

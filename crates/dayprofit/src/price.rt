@@ -10,7 +10,7 @@ use book::{queue, trades};
 use rules::{Contract, Trade};
 
 // What trades of a contract came to, price x lots, and their lots.
-#[derive(Drop)]
+#[derive(Clone, Copy)]
 pub struct Turnover {
     pub value: u64,
     pub lots: u64,

@@ -11,7 +11,7 @@ use rules::Holding;
 
 // What the legs of one side come to: lots closed, and what they brought or cost; lots opened, and what for; and of those, what the
 // closed ones were opened for.
-#[derive(Drop)]
+#[derive(Clone, Copy)]
 pub struct Sums {
     pub closed: u32,
     pub closes: u64,
@@ -21,7 +21,7 @@ pub struct Sums {
 }
 
 // A side's day: what its closes came to, what the closed lots were opened for, the lots open, and what they were opened for.
-#[derive(Drop)]
+#[derive(Clone, Copy)]
 pub struct Side {
     pub closes: u64,
     pub closed: u64,
@@ -29,7 +29,7 @@ pub struct Side {
     pub opened: u64,
 }
 
-#[derive(Drop)]
+#[derive(Clone, Copy)]
 pub struct Profit {
     pub closing: i64,
     pub holding: i64,

@@ -9,7 +9,7 @@ use crate::updates::Carried;
 use rules::{Answer, State};
 
 // An answer and the state after it.
-#[derive(Drop)]
+#[derive(Clone, Copy)]
 pub struct Outcome {
     pub answer: Answer,
     pub state: State,

@@ -62,7 +62,7 @@ pub fn with_counts(state: State, c: usize, bought: usize, sold: usize) -> State
 }
 
 // A cancel in one queue: 0 or the code that refuses it, the orders that stay, the lots taken out.
-#[derive(Drop)]
+#[derive(Clone, Copy)]
 struct Cancelled {
     code: u32,
     count: usize,

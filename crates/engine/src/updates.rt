@@ -8,7 +8,7 @@ use rules::{Account, Answer, Contract, NewOrder, State, Taker};
 
 // A contract as it stands: its place, its terms, the orders on either side; and what all contracts share, the day's trades and the next
 // order number and time stamp.
-#[derive(Drop)]
+#[derive(Clone, Copy)]
 pub struct Listed {
     pub place: usize,
     pub terms: Contract,
@@ -21,7 +21,7 @@ pub struct Listed {
 
 // An order about to enter: as it was sent, as it meets the opposite queue, and its contract as it stands, with the next order number and
 // time stamp that it leaves.
-#[derive(Drop)]
+#[derive(Clone, Copy)]
 pub struct Arrival {
     pub order: NewOrder,
     pub taker: Taker,
@@ -30,7 +30,7 @@ pub struct Arrival {
 
 // What is left where all accounts may have changed: the accounts, one contract, the answer. The array stands first, so that nothing
 // pads it and fewer copies of it are made.
-#[derive(Drop)]
+#[derive(Clone, Copy)]
 pub struct Carried {
     pub accounts: [Account; rules::MAX_ACCOUNTS],
     pub listed: Listed,
@@ -38,14 +38,14 @@ pub struct Carried {
 }
 
 // What is left to do with all accounts: an order that trades, the match of an auction.
-#[derive(Drop)]
+#[derive(Clone, Copy)]
 pub enum Pending {
     Trading(Arrival),
     Matching(u32),
 }
 
 // What is left to do with the whole state.
-#[derive(Drop)]
+#[derive(Clone, Copy)]
 pub enum Remaining {
     Quoting {
         account: u32,
@@ -59,7 +59,7 @@ pub enum Remaining {
 
 // What changes: nothing, one account's balance, one contract; or nothing is done yet, and this is left to do, with all accounts or with
 // the whole state.
-#[derive(Drop)]
+#[derive(Clone, Copy)]
 pub enum Update {
     Nothing,
     Balance { place: usize, balance: i64 },
@@ -68,7 +68,7 @@ pub enum Update {
     Whole(Remaining),
 }
 
-#[derive(Drop)]
+#[derive(Clone, Copy)]
 pub struct Decision {
     pub answer: Answer,
     pub update: Update,

@@ -15,7 +15,7 @@ use rules::{Answer, Contract, State};
 // What a settlement reports: each contract's settlement price; each account's closing and holding profit, and its charged
 // margin after the settlement. All zero where there was none.
 #[repr(C)]
-#[derive(Drop)]
+#[derive(Clone, Copy)]
 pub struct Report {
     pub prices: [u32; rules::MAX_CONTRACTS],
     pub closing: [i64; rules::MAX_ACCOUNTS],
@@ -25,7 +25,7 @@ pub struct Report {
 
 // An answer, the state after it and the report.
 #[repr(C)]
-#[derive(Drop)]
+#[derive(Clone, Copy)]
 pub struct Response {
     pub answer: Answer,
     pub state: State,

@@ -6,7 +6,7 @@ use rules::State;
 
 // A part of an area: its first word, and how many words it has. An empty part begins at 0.
 #[repr(C)]
-#[derive(Drop)]
+#[derive(Clone, Copy)]
 pub struct Part {
     pub first: usize,
     pub words: usize,

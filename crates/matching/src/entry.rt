@@ -12,7 +12,7 @@ use rules::{Account, Order, Taker};
 
 // The accounts, first as in `Filled`; lots traded and rested; orders in the own and in the opposite queue, trades of the day; the
 // last price.
-#[derive(Drop)]
+#[derive(Clone, Copy)]
 pub struct Entry {
     pub accounts: [Account; rules::MAX_ACCOUNTS],
     pub traded: u32,

@@ -9,7 +9,7 @@ use rules::{Account, Taker};
 
 // The accounts; lots traded, the last price, resting orders filled, trades of the day. The array stands first, so that nothing
 // pads it and fewer copies of it are made.
-#[derive(Drop)]
+#[derive(Clone, Copy)]
 pub struct Filled {
     pub accounts: [Account; rules::MAX_ACCOUNTS],
     pub traded: u32,

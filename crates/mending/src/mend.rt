@@ -17,7 +17,7 @@ const ENTRY_WIDTH: usize = 9;
 
 // 0, or the code that refuses, and how many bytes of the two areas are written.
 #[repr(C)]
-#[derive(Drop)]
+#[derive(Clone, Copy)]
 pub struct Mended {
     pub code: u32,
     pub length: usize,

@@ -18,7 +18,7 @@ pub mod scan;
 
 // The code, the lots that would trade, and the number of resting orders read to know it.
 #[repr(C)]
-#[derive(Drop)]
+#[derive(Clone, Copy)]
 pub struct Reading {
     pub code: u32,
     pub lots: u32,

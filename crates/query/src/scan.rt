@@ -6,7 +6,7 @@ ghost use Rattle.query.specs.Gettable.{GatheredIs};
 use rules::Taker;
 
 // The lots that an order gets, and how many orders were read.
-#[derive(Drop)]
+#[derive(Clone, Copy)]
 pub struct Gathered {
     pub lots: u32,
     pub read: usize,

@@ -26,7 +26,7 @@ use rules::{Account, Answer, NewOrder, State};
 const MADE: usize = rules::TRADE_STRIDE * rules::MAX_RESTING;
 
 // A quote as it is asked for.
-#[derive(Drop)]
+#[derive(Clone, Copy)]
 pub struct Quoted {
     pub account: u32,
     pub contract: u32,
@@ -222,7 +222,7 @@ pub fn trade(
 }
 
 // An order of a quote, and both: its answer; whether it would trade, and then nothing is done of it; the contract as it leaves it.
-#[derive(Drop)]
+#[derive(Clone, Copy)]
 struct Rested {
     listed: Listed,
     answer: Answer,

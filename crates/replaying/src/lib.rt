@@ -11,7 +11,7 @@ use book::trades;
 use rules::Account;
 
 // What the accounts hold afterwards, and whether each close found its lots; where one did not, the accounts are those given.
-#[derive(Drop)]
+#[derive(Clone, Copy)]
 pub struct Held {
     pub accounts: [Account; rules::MAX_ACCOUNTS],
     pub covered: bool,

@@ -76,7 +76,7 @@ pub const STAMP_WORD: usize = 5;
 // price. Rate and method are as wide as in the day file: four contracts then take 128 bytes, which a compiler still copies in
 // place.
 #[repr(C)]
-#[derive(Drop)]
+#[derive(Clone, Copy)]
 pub struct Contract {
     pub multiplier: u32,
     pub tick: u32,
@@ -104,7 +104,7 @@ pub const MAX_PHASE: u32 = AUCTION;
 
 // What one account holds in one contract: lots now, and lots at the start of the day.
 #[repr(C)]
-#[derive(Drop)]
+#[derive(Clone, Copy)]
 pub struct Holding {
     pub long: u32,
     pub short: u32,
@@ -114,7 +114,7 @@ pub struct Holding {
 
 // `maker` is 1 for a market maker and 0 for others.
 #[repr(C)]
-#[derive(Drop)]
+#[derive(Clone, Copy)]
 pub struct Account {
     pub balance: i64,
     pub holdings: [Holding; MAX_CONTRACTS],
@@ -124,7 +124,7 @@ pub struct Account {
 // A resting order: its remaining lots, the account's place, 1 for a close and 0 for an open, its time stamp, 1 where it is part of
 // a quote and 0 elsewhere.
 #[repr(C)]
-#[derive(Drop)]
+#[derive(Clone, Copy)]
 pub struct Order {
     pub price: u32,
     pub number: u32,
@@ -138,7 +138,7 @@ pub struct Order {
 // A trade: the contract's place, the two orders' numbers, the two accounts' places, and for each leg 1 for a close and 0
 // for an open.
 #[repr(C)]
-#[derive(Drop)]
+#[derive(Clone, Copy)]
 pub struct Trade {
     pub contract: u32,
     pub price: u32,
@@ -155,7 +155,7 @@ pub struct Trade {
 // how many of each are in use: orders by contract, contracts, accounts, trades of the day. `next` is the next order number,
 // `nextstamp` the next time stamp.
 #[repr(C)]
-#[derive(Drop)]
+#[derive(Clone, Copy)]
 pub struct State {
     pub contracts: [Contract; MAX_CONTRACTS],
     pub accounts: [Account; MAX_ACCOUNTS],
@@ -171,7 +171,7 @@ pub struct State {
 
 // A command's 24 bytes, field by field.
 #[repr(C)]
-#[derive(Drop)]
+#[derive(Clone, Copy)]
 pub struct Record {
     pub kind: u8,
     pub account: u8,
@@ -184,7 +184,7 @@ pub struct Record {
 }
 
 // "An order carries one of three price conditions": limit holds its price, market and best hold none.
-#[derive(Drop)]
+#[derive(Clone, Copy)]
 pub enum PriceCondition {
     Limit(u32),
     Market,
@@ -192,14 +192,14 @@ pub enum PriceCondition {
 }
 
 // "0 middle price, 1 average, 2 first-in price": the average holds the tick that it is rounded down to.
-#[derive(Drop)]
+#[derive(Clone, Copy)]
 pub enum PairingMethod {
     Middle,
     Average(u32),
     FirstIn,
 }
 
-#[derive(Drop)]
+#[derive(Clone, Copy)]
 pub enum TimeCondition {
     GoodForDay,
     ImmediateOrCancel,
@@ -207,7 +207,7 @@ pub enum TimeCondition {
 }
 
 // An order as it is sent in. Its price field stays beside the price condition: code 7 looks at it after code 1.
-#[derive(Drop)]
+#[derive(Clone, Copy)]
 pub struct NewOrder {
     pub account: u32,
     pub contract: u32,
@@ -220,7 +220,7 @@ pub struct NewOrder {
 }
 
 // A command as it is understood; account and contract are numbers as given.
-#[derive(Drop)]
+#[derive(Clone, Copy)]
 pub enum Command {
     Malformed,
     Deposit {
@@ -266,7 +266,7 @@ pub enum Command {
 
 // An accepted order as it meets the book: account and contract by place, its number, the time stamp and the quote mark that it gets, its
 // contract's pairing method, and the best opposite price standing on its arrival (0 where the opposite side is empty).
-#[derive(Drop)]
+#[derive(Clone, Copy)]
 pub struct Taker {
     pub account: u32,
     pub contract: u32,
@@ -283,7 +283,7 @@ pub struct Taker {
 // "Each answer holds a code, an order number, lots traded and lots rested (insert; a vanished remainder isn't counted) or
 // removed (cancel, pull)."
 #[repr(C)]
-#[derive(Drop)]
+#[derive(Clone, Copy)]
 pub struct Answer {
     pub code: u32,
     pub number: u32,

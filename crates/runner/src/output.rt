@@ -19,7 +19,7 @@ pub const BUFFER: usize = 200000;
 // nothing is printed then. `length` bytes from the buffer's start are the part. `next` is the place of the next command, from 0, and with
 // `state` goes into the next call, if there is more.
 #[repr(C)]
-#[derive(Drop)]
+#[derive(Clone, Copy)]
 pub struct Printed {
     pub code: u32,
     pub length: usize,
@@ -135,7 +135,7 @@ pub fn goes_on(more: bool, written: bool) -> bool
 pub const NOTE_MOST: usize = 13;
 
 // So many of these bytes are said.
-#[derive(Drop)]
+#[derive(Clone, Copy)]
 pub struct Note {
     pub bytes: [u8; NOTE_MOST],
     pub length: usize,

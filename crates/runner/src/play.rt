@@ -16,7 +16,7 @@ pub const COMMAND_MOST: usize = line::ANSWER_LINE_MOST
     + SETTLEMENT_MOST;
 
 // The state after the part, the place of the next command, and the place after the lines.
-#[derive(Drop)]
+#[derive(Clone, Copy)]
 pub struct Played {
     pub state: State,
     pub next: usize,

@@ -15,7 +15,7 @@ use lines::line::put_answer;
 use rules::{Command, Record, State};
 
 // The state after a command, and the place after its lines.
-#[derive(Drop)]
+#[derive(Clone, Copy)]
 pub struct Turn {
     pub state: State,
     pub end: usize,

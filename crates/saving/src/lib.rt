@@ -18,7 +18,7 @@ mod writing;
 
 // 0, or the code that refuses, and how many bytes are written.
 #[repr(C)]
-#[derive(Drop)]
+#[derive(Clone, Copy)]
 pub struct Saved {
     pub code: u32,
     pub length: usize,
@@ -26,7 +26,7 @@ pub struct Saved {
 
 // 0, or the code that refuses, and the state: the file's, or the one given where the file is refused.
 #[repr(C)]
-#[derive(Drop)]
+#[derive(Clone, Copy)]
 pub struct Loaded {
     pub code: u32,
     pub state: State,

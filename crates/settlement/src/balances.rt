@@ -14,7 +14,7 @@ use dayprofit::{profit, sums};
 use rules::{Account, Contract, Holding, State};
 
 // The accounts after a settlement, and each one's closing and holding profit.
-#[derive(Drop)]
+#[derive(Clone, Copy)]
 pub struct Books {
     pub accounts: [Account; rules::MAX_ACCOUNTS],
     pub closing: [i64; rules::MAX_ACCOUNTS],
@@ -29,7 +29,7 @@ fn multiplied(profit: i64, multiplier: u32) -> i64
 }
 
 // The contracts in use: their terms and settlement prices.
-#[derive(Drop)]
+#[derive(Clone, Copy)]
 struct Priced {
     contracts: [Contract; rules::MAX_CONTRACTS],
     prices: [u32; rules::MAX_CONTRACTS],

@@ -10,7 +10,7 @@ use dayprofit::price;
 use rules::{Account, State};
 
 // The state after a settlement; the prices, each account's closing and holding profit, and its charged margin afterwards.
-#[derive(Drop)]
+#[derive(Clone, Copy)]
 pub struct Settled {
     pub state: State,
     pub prices: [u32; rules::MAX_CONTRACTS],

@@ -16,7 +16,7 @@ pub mod writing;
 
 // 0, or the code that refuses, and how many bytes are written.
 #[repr(C)]
-#[derive(Drop)]
+#[derive(Clone, Copy)]
 pub struct Statement {
     pub code: u32,
     pub length: usize,

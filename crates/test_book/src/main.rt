@@ -13,7 +13,7 @@ use matching::entry::Entry;
 use rules::{Account, Holding, PairingMethod, PriceCondition, Taker};
 
 // What stands in the book: orders on either side, trades of the day, the last price.
-#[derive(Drop)]
+#[derive(Clone, Copy)]
 struct Standing {
     buycount: usize,
     sellcount: usize,

@@ -26,7 +26,7 @@ pub const ANSWERS: usize = 16020;
 pub const ALL: usize = 16520;
 
 // How many words of each area are lent.
-#[derive(Drop)]
+#[derive(Clone, Copy)]
 pub struct Lengths {
     pub buys: usize,
     pub sells: usize,
@@ -35,7 +35,7 @@ pub struct Lengths {
 }
 
 // What a vector gives, and where it goes on.
-#[derive(Drop)]
+#[derive(Clone, Copy)]
 pub struct Given {
     pub state: State,
     pub lengths: Lengths,

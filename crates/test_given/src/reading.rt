@@ -3,21 +3,21 @@
 ghost use Rattle.std.specs.Prelude.{◌≤◌};
 
 // A number, and where the next one begins.
-#[derive(Drop)]
+#[derive(Clone, Copy)]
 pub struct Found {
     pub value: u64,
     pub next: usize,
 }
 
 // Numbers one after the other, zeros behind them.
-#[derive(Drop)]
+#[derive(Clone, Copy)]
 pub struct Row {
     pub values: [u64; 16],
     pub next: usize,
 }
 
 // How many words or bytes were read.
-#[derive(Drop)]
+#[derive(Clone, Copy)]
 pub struct Length {
     pub length: usize,
     pub next: usize,

@@ -10,14 +10,14 @@ use test_given::building::{ALL, Given};
 use test_given::{building, comparing, reading};
 
 // Whether a call answered as told, and where the vector goes on.
-#[derive(Drop)]
+#[derive(Clone, Copy)]
 pub struct Checked {
     pub same: bool,
     pub next: usize,
 }
 
 // The same with the state that the call left.
-#[derive(Drop)]
+#[derive(Clone, Copy)]
 pub struct Ran {
     pub state: State,
     pub same: bool,
@@ -213,7 +213,7 @@ fn side<'a>(
 }
 
 // The bytes that a vector tells: how many, and whether an area holds them, behind which it is as it was filled.
-#[derive(Drop)]
+#[derive(Clone, Copy)]
 struct Told {
     length: usize,
     next: usize,

@@ -4,8 +4,8 @@ use Rattle.commands.proofs.Accounts.{number_as}
 use Rattle.commands.proofs.account_number.Statement.{statement}
 use Rattle.commands.proofs.account_number.Tie as tie
 
-pub account-number-spec : {M : Type 1} → statement M
-account-number-spec = tie.close (tie.spec
+pub account_number_spec : {M : Type 1} → statement M
+account_number_spec = tie.close (tie.spec
     (λ c. search rules)
     (λ c. search rules)
     (λ c. search rules)

@@ -5,9 +5,9 @@ use Rattle.rules.specs.Command.{command_of}
 use Rattle.commands.proofs.command_of.Statement.{statement}
 use Rattle.commands.proofs.command_of.Tie as tie
 
-pub command-of-spec : {M : Type 1} → statement M
+pub command_of_spec : {M : Type 1} → statement M
 unfolding command_of
-command-of-spec = tie.close (tie.spec
+command_of_spec = tie.close (tie.spec
     (λ c κs. search rules)
     (λ c κs. search rules)
     (λ c κs. search rules)
@@ -17,13 +17,13 @@ command-of-spec = tie.close (tie.spec
     (λ c κs. search rules)
     (λ c κs. search rules)
     (λ c κs. search rules)
-    (λ c. rw (c.deposit-of.ensures, c.before.match.keys1))
-    (λ c. rw (c.withdraw-of.ensures, c.before.match.keys2))
-    (λ c. rw (c.insert-of.ensures, c.before.match.keys3))
-    (λ c. rw (c.cancel-of.ensures, c.before.match.keys4))
-    (λ c. rw (c.pull-of.ensures, c.before.match.keys5))
-    (λ c. rw (c.phase-of.ensures, c.before.match.keys6))
-    (λ c. rw (c.settle-of.ensures, c.before.match.keys7))
-    (λ c. rw (c.quote-of.ensures, c.before.match.keys8))
-    (λ c. rw (c.change-of.ensures, c.before.match.keys9))
+    (λ c. rw (c.deposit_of.ensures, c.in-1.is))
+    (λ c. rw (c.withdraw_of.ensures, c.in-2.is))
+    (λ c. rw (c.insert_of.ensures, c.in-3.is))
+    (λ c. rw (c.cancel_of.ensures, c.in-4.is))
+    (λ c. rw (c.pull_of.ensures, c.in-5.is))
+    (λ c. rw (c.phase_of.ensures, c.in-6.is))
+    (λ c. rw (c.settle_of.ensures, c.in-7.is))
+    (λ c. rw (c.quote_of.ensures, c.in-8.is))
+    (λ c. rw (c.change_of.ensures, c.in-9.is))
     (λ c. search ne_eqb))

@@ -5,17 +5,17 @@ use Rattle.rules.specs.Command.{zeros, deposit_of}
 use Rattle.commands.proofs.deposit_of.Statement.{statement}
 use Rattle.commands.proofs.deposit_of.Tie as tie
 
-returns : tie.Need-returns
+returns : tie.Need-returns-then-all_zero
 unfolding zeros all_of deposit_of
-returns c = rw (← c.before.before.all-zero.ensures, c.before.if1.true)
+returns c = rw (← c.all_zero.ensures, c.if-all_zero.true)
 
-returns-2 : tie.Need-returns-2
+returns-2 : tie.Need-returns-else-all_zero
 unfolding zeros all_of deposit_of
-returns-2 c = rw (← c.before.all-zero.ensures, c.if1.false)
+returns-2 c = rw (← c.all_zero.ensures, c.if-all_zero.false)
 
-pub deposit-of-spec : {M : Type 1} → statement M
-deposit-of-spec = tie.close (tie.spec
-    (λ c κs. search rules)  -- all-zero-requires
-    (λ c. search rules)  -- cast-t4
+pub deposit_of_spec : {M : Type 1} → statement M
+deposit_of_spec = tie.close (tie.spec
+    (λ c κs. search rules)  -- all_zero-requires
+    (λ c. search rules)  -- overflow_cast-result
     returns
     returns-2)

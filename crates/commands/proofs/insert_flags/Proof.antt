@@ -5,21 +5,21 @@ use Rattle.commands.proofs.Flags.{masked}
 use Rattle.commands.proofs.insert_flags.Statement.{statement}
 use Rattle.commands.proofs.insert_flags.Tie as tie
 
-returns : tie.Need-returns
+returns : tie.Need-returns-then-flags-ne0
 unfolding insert_flags
-returns c = rw (← masked c.before.args.flags 6 2, ne_eqb _ _ c.if1.true)
+returns c = rw (← masked c.args.flags 6 2, ne_eqb _ _ c.if-flags-ne0.true)
 
-returns-2 : tie.Need-returns-2
+returns-2 : tie.Need-returns-then-flags-ge3
 unfolding insert_flags
 returns-2 c =
-    let f = c.before.before.args.flags in
-    rw (← masked f 6 2, ← masked f 2 2, eq-eqb _ _ c.before.if1.false, le-ltb _ _ c.if2.true)
+    let f = c.args.flags in
+    rw (← masked f 6 2, ← masked f 2 2, eq-eqb _ _ c.if-flags-ne0.false, le-ltb _ _ c.if-flags-ge3.true)
 
-returns-3 : tie.Need-returns-3
+returns-3 : tie.Need-returns
 unfolding insert_flags
 returns-3 c =
-    let f = c.before.before.args.flags in
-    rw (← masked f 6 2, ← masked f 2 2, ← masked f 4 2, eq-eqb _ _ c.before.if1.false, lt-ltb _ _ c.if2.false)
+    let f = c.args.flags in
+    rw (← masked f 6 2, ← masked f 2 2, ← masked f 4 2, eq-eqb _ _ c.if-flags-ne0.false, lt-ltb _ _ c.if-flags-ge3.false)
 
-pub insert-flags-spec : {M : Type 1} → statement M
-insert-flags-spec = tie.close (tie.spec returns returns-2 returns-3)
+pub insert_flags_spec : {M : Type 1} → statement M
+insert_flags_spec = tie.close (tie.spec returns returns-2 returns-3)

@@ -6,38 +6,38 @@ use Rattle.rules.specs.Command.{zeros, insert_of}
 use Rattle.commands.proofs.insert_of.Statement.{statement}
 use Rattle.commands.proofs.insert_of.Tie as tie
 
-returns : tie.Need-returns
+returns : tie.Need-returns-then-not-all_zero
 unfolding zeros all_of insert_of
-returns c = rw (← c.before.all-zero.ensures, not-true c.before.all-zero.result c.if1.true)
+returns c = rw (← c.all_zero.ensures, c.if-not-all_zero.true)
 
-returns-2 : tie.Need-returns-2
+returns-2 : tie.Need-returns-then-not-insert_flags
 unfolding zeros all_of insert_of
 returns-2 c =
     let b = c.before.before in
     rw (
-      ← b.before.all-zero.ensures,
-      not-false b.before.all-zero.result b.if1.false,
-      ← c.before.insert-flags.ensures,
-      not-true c.before.insert-flags.result c.if2.true,
+      ← b.all_zero.ensures,
+      b.if-not-all_zero.false,
+      ← c.insert_flags.ensures,
+      c.if-not-insert_flags.true,
     )
 
-returns-3 : tie.Need-returns-3
+returns-3 : tie.Need-returns
 unfolding zeros all_of insert_of
 returns-3 c =
     let b = c.before.before in
     rw (
-      ← b.before.before.all-zero.ensures,
-      not-false b.before.before.all-zero.result b.before.if1.false,
-      ← b.insert-flags.ensures,
-      not-false b.insert-flags.result c.before.if2.false,
-      c.new-order.ensures,
+      ← b.all_zero.ensures,
+      b.if-not-all_zero.false,
+      ← b.insert_flags.ensures,
+      c.if-not-insert_flags.false,
+      c.new_order-order.ensures,
     )
 
-pub insert-of-spec : {M : Type 1} → statement M
-insert-of-spec = tie.close (tie.spec
-    (λ c κs. search rules)  -- all-zero-requires
+pub insert_of_spec : {M : Type 1} → statement M
+insert_of_spec = tie.close (tie.spec
+    (λ c κs. search rules)  -- all_zero-requires
     returns
-    (λ c κs. search rules)  -- insert-flags-requires
+    (λ c κs. search rules)  -- insert_flags-requires
     returns-2
-    (λ c κs. search rules)  -- new-order-requires
+    (λ c κs. search rules)  -- new_order-order-requires
     returns-3)

@@ -6,35 +6,35 @@ use Rattle.rules.specs.Command.{zeros, phase_of}
 use Rattle.commands.proofs.phase_of.Statement.{statement}
 use Rattle.commands.proofs.phase_of.Tie as tie
 
-returns : tie.Need-returns
+returns : tie.Need-returns-then-not-all_zero
 unfolding zeros all_of phase_of
-returns c = rw (← c.before.all-zero.ensures, not-true c.before.all-zero.result c.if1.true)
+returns c = rw (← c.all_zero.ensures, c.if-not-all_zero.true)
 
-returns-2 : tie.Need-returns-2
+returns-2 : tie.Need-returns-then-phase-gt-MAX_PHASE
 unfolding zeros all_of phase_of
 returns-2 c =
     let b = c.before.before in
     rw (
-      ← b.before.all-zero.ensures,
-      not-false b.before.all-zero.result b.if1.false,
-      lt-leb _ _ c.if2.true,
+      ← b.all_zero.ensures,
+      b.if-not-all_zero.false,
+      lt-leb _ _ c.if-phase-gt-MAX_PHASE.true,
     )
 
-returns-3 : tie.Need-returns-3
+returns-3 : tie.Need-returns
 unfolding zeros all_of phase_of
 returns-3 c =
     let b = c.before.before.before in
     rw (
-      ← b.before.all-zero.ensures,
-      not-false b.before.all-zero.result b.if1.false,
-      le-leb _ _ c.before.if2.false,
+      ← b.all_zero.ensures,
+      b.if-not-all_zero.false,
+      le-leb _ _ c.if-phase-gt-MAX_PHASE.false,
     )
 
-pub phase-of-spec : {M : Type 1} → statement M
-phase-of-spec = tie.close (tie.spec
-    (λ c κs. search rules)  -- all-zero-requires
+pub phase_of_spec : {M : Type 1} → statement M
+phase_of_spec = tie.close (tie.spec
+    (λ c κs. search rules)  -- all_zero-requires
     returns
-    (λ c. search rules)  -- cast-phase
+    (λ c. search rules)  -- overflow_cast-phase
     returns-2
-    (λ c. search rules)  -- cast-t5
+    (λ c. search rules)  -- overflow_cast-result
     returns-3)

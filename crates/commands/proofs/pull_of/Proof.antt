@@ -7,34 +7,34 @@ use Rattle.commands.proofs.Flags.{masked_low}
 use Rattle.commands.proofs.pull_of.Statement.{statement}
 use Rattle.commands.proofs.pull_of.Tie as tie
 
-returns : tie.Need-returns
+returns : tie.Need-returns-then-not-all_zero
 unfolding zeros all_of pull_of
-returns c = rw (← c.before.all-zero.ensures, not-true c.before.all-zero.result c.if1.true)
+returns c = rw (← c.all_zero.ensures, c.if-not-all_zero.true)
 
-returns-2 : tie.Need-returns-2
+returns-2 : tie.Need-returns-then-flags-gt1
 unfolding zeros all_of pull_of
 returns-2 c = rw (
-  ← c.before.before.all-zero.ensures,
-  not-false c.before.before.all-zero.result c.before.if1.false,
-  lt-leb _ _ c.if2.true,
+  ← c.all_zero.ensures,
+  c.if-not-all_zero.false,
+  lt-leb _ _ c.if-flags-gt1.true,
 )
 
-returns-3 : tie.Need-returns-3
+returns-3 : tie.Need-returns
 unfolding zeros all_of pull_of
 returns-3 c =
     let b = c.before.before.before in
     rw (
-      ← b.before.all-zero.ensures,
-      not-false b.before.all-zero.result b.if1.false,
-      le-leb _ _ c.before.before.if2.false,
-      masked_low b.before.before.args.r.flags 1,
+      ← b.all_zero.ensures,
+      b.if-not-all_zero.false,
+      le-leb _ _ c.if-flags-gt1.false,
+      masked_low b.args.r.flags 1,
     )
 
-pub pull-of-spec : {M : Type 1} → statement M
-pull-of-spec = tie.close (tie.spec
-    (λ c κs. search rules)  -- all-zero-requires
+pub pull_of_spec : {M : Type 1} → statement M
+pull_of_spec = tie.close (tie.spec
+    (λ c κs. search rules)  -- all_zero-requires
     returns
     returns-2
-    (λ c. search rules)  -- cast-t5
-    (λ c. search rules)  -- cast-t6
+    (λ c. search rules)  -- overflow_cast-result
+    (λ c. search rules)  -- overflow_cast-result-2
     returns-3)

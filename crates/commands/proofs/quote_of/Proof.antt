@@ -5,18 +5,18 @@ use Rattle.rules.specs.Command.{zeros, quote_of}
 use Rattle.commands.proofs.quote_of.Statement.{statement}
 use Rattle.commands.proofs.quote_of.Tie as tie
 
-returns : tie.Need-returns
+returns : tie.Need-returns-then-all_zero
 unfolding zeros all_of quote_of
-returns c = rw (← c.before.before.before.all-zero.ensures, c.before.before.if1.true)
+returns c = rw (← c.all_zero.ensures, c.if-all_zero.true)
 
-returns-2 : tie.Need-returns-2
+returns-2 : tie.Need-returns-else-all_zero
 unfolding zeros all_of quote_of
-returns-2 c = rw (← c.before.all-zero.ensures, c.if1.false)
+returns-2 c = rw (← c.all_zero.ensures, c.if-all_zero.false)
 
-pub quote-of-spec : {M : Type 1} → statement M
-quote-of-spec = tie.close (tie.spec
-    (λ c κs. search rules)  -- all-zero-requires
-    (λ c. search rules)  -- cast-t4
-    (λ c. search rules)  -- cast-t5
+pub quote_of_spec : {M : Type 1} → statement M
+quote_of_spec = tie.close (tie.spec
+    (λ c κs. search rules)  -- all_zero-requires
+    (λ c. search rules)  -- overflow_cast-result
+    (λ c. search rules)  -- overflow_cast-result-then-all_zero
     returns
     returns-2)

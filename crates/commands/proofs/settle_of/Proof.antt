@@ -5,16 +5,16 @@ use Rattle.rules.specs.Command.{zeros, settle_of}
 use Rattle.commands.proofs.settle_of.Statement.{statement}
 use Rattle.commands.proofs.settle_of.Tie as tie
 
-all-zero-requires : tie.Need-all-zero-requires
+all-zero-requires : tie.Need-all_zero-requires
 all-zero-requires c κs = search rules
 
-returns : tie.Need-returns
+returns : tie.Need-returns-then-all_zero
 unfolding zeros all_of settle_of
-returns c = rw (← c.before.all-zero.ensures, c.if1.true)
+returns c = rw (← c.all_zero.ensures, c.if-all_zero.true)
 
-returns-2 : tie.Need-returns-2
+returns-2 : tie.Need-returns-else-all_zero
 unfolding zeros all_of settle_of
-returns-2 c = rw (← c.before.all-zero.ensures, c.if1.false)
+returns-2 c = rw (← c.all_zero.ensures, c.if-all_zero.false)
 
-pub settle-of-spec : {M : Type 1} → statement M
-settle-of-spec = tie.close (tie.spec all-zero-requires returns returns-2)
+pub settle_of_spec : {M : Type 1} → statement M
+settle_of_spec = tie.close (tie.spec all-zero-requires returns returns-2)

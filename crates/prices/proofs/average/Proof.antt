@@ -12,10 +12,10 @@ returns : tie.Need-returns
 unfolding average
 returns c = refl
 
-pub average-spec : {M : Type 1} → statement M
-average-spec = tie.close (tie.spec
-    (λ c. search rules)  -- add-half
-    (λ c. search rules)  -- div-result
-    (λ c. record { fits = omega (arith, div-mul-le_self ((c.args.a + c.args.b) / 2) c.args.tick) })  -- mul-result
-    (λ c. record { fits = omega (arith, div-mul-le_self ((c.args.a + c.args.b) / 2) c.args.tick) })  -- cast-result
+pub average_spec : {M : Type 1} → statement M
+average_spec = tie.close (tie.spec
+    (λ c. search rules)  -- overflow_add-half
+    (λ c. search rules)  -- nonzero_div-result
+    (λ c. record { fits = omega (arith, div-mul-le_self ((c.args.a + c.args.b) / 2) c.args.tick) })  -- overflow_mul-result
+    (λ c. record { fits = omega (arith, div-mul-le_self ((c.args.a + c.args.b) / 2) c.args.tick) })  -- overflow_cast-result
     returns)

@@ -4,17 +4,17 @@ use Rattle.rules.specs.Matching.{trade_with}
 use Rattle.prices.proofs.trade_with.Statement.{statement}
 use Rattle.prices.proofs.trade_with.Tie as tie
 
-returns : tie.Need-returns
+returns : tie.Need-returns-then-t
 unfolding trade_with
-returns c = rw (c.if1.true, c.before.before.trade_price_lem.ensures, c.before.smaller.ensures)
+returns c = rw (c.if-t.true, c.trade_price-price.ensures, c.smaller-lots.ensures)
 
-returns-2 : tie.Need-returns-2
+returns-2 : tie.Need-returns-else-t
 unfolding trade_with
-returns-2 c = rw (c.if1.false, c.before.before.trade_price_lem.ensures, c.before.smaller.ensures)
+returns-2 c = rw (c.if-t.false, c.trade_price-price.ensures, c.smaller-lots.ensures)
 
-pub trade-with-spec : {M : Type 1} → statement M
-trade-with-spec = tie.close (tie.spec
-    (λ c κs. search rules)  -- trade-price-requires
-    (λ c κs. search rules)  -- smaller-requires
+pub trade_with_spec : {M : Type 1} → statement M
+trade_with_spec = tie.close (tie.spec
+    (λ c κs. search rules)  -- trade_price-price-requires
+    (λ c κs. search rules)  -- smaller-lots-requires
     returns
     returns-2)

@@ -11,10 +11,10 @@ returns : tie.Need-returns
 unfolding day_high
 returns c = c.smaller.ensures
 
-pub day-high-spec : {M : Type 1} → statement M
-day-high-spec = tie.close (tie.spec
-    (λ c. let t = terms c.before.args.c c.before.requires in record { fits = omega (arith, t.reference.high, t.band.high) })  -- add-smaller
-    (λ c. omega (arith, (terms c.before.args.c c.before.requires).tick_low))  -- div-smaller
-    (λ c. record { fits = omega (arith, div-add-mod' 1_000_000 c.before.args.c.tick) })  -- mul-smaller
+pub day_high_spec : {M : Type 1} → statement M
+day_high_spec = tie.close (tie.spec
+    (λ c. let t = terms c.args.c c.requires in record { fits = omega (arith, t.reference.high, t.band.high) })  -- overflow_add-c
+    (λ c. omega (arith, (terms c.args.c c.requires).tick_low))  -- nonzero_div-tick
+    (λ c. record { fits = omega (arith, div-add-mod' 1_000_000 c.args.c.tick) })  -- overflow_mul-tick
     (λ c κs. search rules)  -- smaller-requires
     returns)

@@ -9,7 +9,7 @@ returns : tie.Need-returns
 unfolding on_tick
 returns c = refl
 
-pub on-tick-spec : {M : Type 1} → statement M
-on-tick-spec = tie.close (tie.spec
-    (λ c. search rules)  -- rem-result
+pub on_tick_spec : {M : Type 1} → statement M
+on_tick_spec = tie.close (tie.spec
+    (λ c. search rules)  -- nonzero_rem-result
     returns)

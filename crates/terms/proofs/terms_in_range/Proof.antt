@@ -25,10 +25,10 @@ unfolding terms_in_range
 terms-chain c = record { is = refl }
 
 -- a contract whose tick passed has one
-some-tick : (c : tie.Else2) → 1 ≤ c.before.before.before.before.args.c.tick
-some-tick c = within_low 1 max_tick c.before.before.before.before.args.c.tick (passed c.before.within2.ensures c.if2.false)
+some-tick : (c : tie.Else-not-within-2) → 1 ≤ c.args.c.tick
+some-tick c = within_low 1 max_tick c.args.c.tick (passed c.within-2.ensures c.if-not-within-2.false)
 
-returns-7 : tie.Need-returns-7
+returns-7 : tie.Need-returns
 returns-7 c =
     let rate = c.before in
     let limit = rate.before.before.before in
@@ -36,27 +36,27 @@ returns-7 c =
     let reference = band.before.before in
     let tick = reference.before.before in
     let multiplier = tick.before.before in
-    let m = passed multiplier.before.within.ensures multiplier.if1.false in
-    let t = passed tick.before.within2.ensures tick.if2.false in
-    let r = passed reference.before.tick-multiple.ensures reference.if3.false in
-    let b = passed band.before.tick-multiple2.ensures band.if4.false in
-    let l = passed limit.before.within3.ensures limit.if5.false in
-    let s = passed rate.before.within4.ensures rate.if6.false in
+    let m = passed multiplier.within.ensures multiplier.if-not-within.false in
+    let t = passed tick.within-2.ensures tick.if-not-within-2.false in
+    let r = passed reference.tick_multiple.ensures reference.if-not-tick_multiple.false in
+    let b = passed band.tick_multiple-2.ensures band.if-not-tick_multiple-2.false in
+    let l = passed limit.within-3.ensures limit.if-not-within-3.false in
+    let s = passed rate.within-4.ensures rate.if-not-within-4.false in
     last (terms-chain _) (m, (t, (r, (b, (l, (s, tt))))))
 
-pub terms-in-range-spec : {M : Type 1} → statement M
-terms-in-range-spec = tie.close (tie.spec
+pub terms_in_range_spec : {M : Type 1} → statement M
+terms_in_range_spec = tie.close (tie.spec
     (λ c κs. search rules)  -- within-requires
-    (λ c. fails (terms-chain _) 0 (refused c.before.within.ensures c.if1.true))  -- returns
+    (λ c. fails (terms-chain _) 0 (refused c.within.ensures c.if-not-within.true))  -- returns-then-not-within
     (λ c κs. search rules)  -- within-requires-2
-    (λ c. fails (terms-chain _) 1 (refused c.before.within2.ensures c.if2.true))  -- returns-2
-    (λ c κs. some-tick c)  -- tick-multiple-requires
-    (λ c. fails (terms-chain _) 2 (refused c.before.tick-multiple.ensures c.if3.true))  -- returns-3
-    (λ c κs. some-tick c.before.before)  -- tick-multiple-requires-2
-    (λ c. fails (terms-chain _) 3 (refused c.before.tick-multiple2.ensures c.if4.true))  -- returns-4
+    (λ c. fails (terms-chain _) 1 (refused c.within-2.ensures c.if-not-within-2.true))  -- returns-then-not-within-2
+    (λ c κs. some-tick c)  -- tick_multiple-requires
+    (λ c. fails (terms-chain _) 2 (refused c.tick_multiple.ensures c.if-not-tick_multiple.true))  -- returns-then-not-tick_multiple
+    (λ c κs. some-tick c.before.before)  -- tick_multiple-requires-2
+    (λ c. fails (terms-chain _) 3 (refused c.tick_multiple-2.ensures c.if-not-tick_multiple-2.true))  -- returns-then-not-tick_multiple-2
     (λ c κs. search rules)  -- within-requires-3
-    (λ c. fails (terms-chain _) 4 (refused c.before.within3.ensures c.if5.true))  -- returns-5
-    (λ c. search rules)  -- cast-within
+    (λ c. fails (terms-chain _) 4 (refused c.within-3.ensures c.if-not-within-3.true))  -- returns-then-not-within-3
+    (λ c. search rules)  -- overflow_cast-c
     (λ c κs. search rules)  -- within-requires-4
-    (λ c. fails (terms-chain _) 5 (refused c.before.within4.ensures c.if6.true))  -- returns-6
+    (λ c. fails (terms-chain _) 5 (refused c.within-4.ensures c.if-not-within-4.true))  -- returns-then-not-within-4
     returns-7)

@@ -10,13 +10,13 @@ returns c =
     let b = c.before.before.before in
     let d = b.before.before.before in
     rw (
-      d.before.u8_at-kind.ensures,
+      d.u8_at-kind.ensures,
       d.u8_at-account.ensures,
-      b.before.before.u8_at-contract.ensures,
-      b.before.u8_at-flags.ensures,
+      b.u8_at-contract.ensures,
+      b.u8_at-flags.ensures,
       b.u32_at-lots.ensures,
-      c.before.before.u32_at-price.ensures,
-      c.before.u32_at-number.ensures,
+      c.u32_at-price.ensures,
+      c.u32_at-number.ensures,
       c.u64_at-amount.ensures,
     )
 

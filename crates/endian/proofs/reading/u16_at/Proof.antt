@@ -7,10 +7,10 @@ use Rattle.endian.proofs.reading.u16_at.Tie as tie
 returns : tie.Need-returns
 unfolding u16_at
 returns c = rw (
-  c.before.before.wide_byte-low.ensures.0,
+  c.wide_byte-low.ensures.0,
   c.wide_byte-high.ensures.0,
-  c.before.before.before.u8_at.ensures,
-  c.before.u8_at-2.ensures,
+  c.u8_at.ensures,
+  c.u8_at-2.ensures,
 )
 
 pub u16_at_spec : {M : Type 1} → statement M

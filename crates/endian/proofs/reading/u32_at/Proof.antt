@@ -6,7 +6,7 @@ use Rattle.endian.proofs.reading.u32_at.Tie as tie
 
 returns : tie.Need-returns
 unfolding u32_at
-returns c = rw (c.before.u16_at-low.ensures, c.u16_at-high.ensures)
+returns c = rw (c.u16_at-low.ensures, c.u16_at-high.ensures)
 
 pub u32_at_spec : {M : Type 1} → statement M
 u32_at_spec = tie.close (tie.spec

@@ -6,7 +6,7 @@ use Rattle.endian.proofs.reading.u64_at.Tie as tie
 
 returns : tie.Need-returns
 unfolding u64_at
-returns c = rw (c.before.u32_at-low.ensures, c.u32_at-high.ensures)
+returns c = rw (c.u32_at-low.ensures, c.u32_at-high.ensures)
 
 pub u64_at_spec : {M : Type 1} → statement M
 u64_at_spec = tie.close (tie.spec

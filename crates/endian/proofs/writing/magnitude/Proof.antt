@@ -6,37 +6,37 @@ use Rattle.endian.proofs.Signs.{Steps, steps}
 use Rattle.endian.proofs.writing.magnitude.Statement.{statement}
 use Rattle.endian.proofs.writing.magnitude.Tie as tie
 
-of-x : (c : tie.Then-x-lt0) → Steps c.before.args.x
-of-x c = steps _ c.before.ranges.x (rw (to_z-of_z c.before.ranges.x) at c.if-x-lt0.true)
+of-x : (c : tie.Then-x-lt0) → Steps c.args.x
+of-x c = steps _ c.ranges.x (rw (to_z-of_z c.ranges.x) at c.if-x-lt0.true)
 
-add-y : tie.Need-overflow-add-y
-add-y c = rw (to_z-of_z c.before.ranges.x) (of-x c).up
+add-y : tie.Need-overflow_add-y
+add-y c = rw (to_z-of_z c.ranges.x) (of-x c).up
 
-sub-z : tie.Need-overflow-sub-z
-sub-z c = rw (to_z-of_z c.before.ranges.x, to_z-of_z (of-x c).up) (of-x c).down
+sub-z : tie.Need-overflow_sub-z
+sub-z c = rw (to_z-of_z c.ranges.x, to_z-of_z (of-x c).up) (of-x c).down
 
-cast-result : tie.Need-overflow-cast-result
+cast-result : tie.Need-overflow_cast-result
 cast-result c = rw (
-  to_z-of_z c.before.ranges.x,
+  to_z-of_z c.ranges.x,
   to_z-of_z (of-x c).up,
   to_z-of_z (of-x c).down,
 ) ((of-x c).some, Fits-nat_abs tt (of-x c).down)
 
-add-result : tie.Need-overflow-add-result
+add-result : tie.Need-overflow_add-result
 add-result c = rw (
-  to_z-of_z c.before.ranges.x,
+  to_z-of_z c.ranges.x,
   to_z-of_z (of-x c).up,
   to_z-of_z (of-x c).down,
   (of-x c).less,
 ) (Fits-nat_abs tt c.before.ranges.x)
 
-cast-result-2 : tie.Need-overflow-cast-result-2
+cast-result-2 : tie.Need-overflow_cast-result-else-x-lt0
 cast-result-2 c =
-    let back = to_z-of_z c.before.ranges.x in
-    rw back (non_neg_lt_z c.before.args.x (rw back at c.if-x-lt0.false), Fits-nat_abs tt c.before.ranges.x)
+    let back = to_z-of_z c.ranges.x in
+    rw back (non_neg_lt_z c.args.x (rw back at c.if-x-lt0.false), Fits-nat_abs tt c.ranges.x)
 
 returns : tie.Need-returns-then-x-lt0
-returns c = rw (to_z-of_z c.before.ranges.x, to_z-of_z (of-x c).up, to_z-of_z (of-x c).down) (of-x c).less
+returns c = rw (to_z-of_z c.ranges.x, to_z-of_z (of-x c).up, to_z-of_z (of-x c).down) (of-x c).less
 
 returns-2 : tie.Need-returns-else-x-lt0
 returns-2 c = search rules

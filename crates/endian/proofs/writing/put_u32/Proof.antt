@@ -8,13 +8,13 @@ use Rattle.endian.proofs.writing.put_u32.Tie as tie
 abbrev Next : tie.After-put_u16 → tie.After-put_u16-next
 Next c = c.before.before.before.before
 
-cast-put-u16 : tie.Need-overflow-cast-put-u16
+cast-put-u16 : tie.Need-overflow_cast-low
 cast-put-u16 c = search rules
 
 put-u16-requires : tie.Need-put_u16-next-requires
 put-u16-requires c κs = search rules
 
-cast-put-u16-2 : tie.Need-overflow-cast-put-u16-2
+cast-put-u16-2 : tie.Need-overflow_cast-high
 cast-put-u16-2 c = search rules
 
 put-u16-requires-2 : tie.Need-put_u16-requires
@@ -24,7 +24,7 @@ same_length : tie.Need-shape_of-out
 same_length c = search rules
 
 returns : tie.Need-returns
-returns c = four_bytes _ (Next c.before.before).put_u16-next.ensures c.before.before.put_u16.ensures
+returns c = four_bytes _ (Next c.before.before).put_u16-next.ensures c.put_u16.ensures
 
 pub put_u32_spec : {M : Type 1} → statement M
 put_u32_spec =

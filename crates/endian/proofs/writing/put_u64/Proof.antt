@@ -8,13 +8,13 @@ use Rattle.endian.proofs.writing.put_u64.Tie as tie
 abbrev Next : tie.After-put_u32 → tie.After-put_u32-next
 Next c = c.before.before.before.before
 
-cast-put-u32 : tie.Need-overflow-cast-put-u32
+cast-put-u32 : tie.Need-overflow_cast-low
 cast-put-u32 c = search rules
 
 put-u32-requires : tie.Need-put_u32-next-requires
 put-u32-requires c κs = search rules
 
-cast-put-u32-2 : tie.Need-overflow-cast-put-u32-2
+cast-put-u32-2 : tie.Need-overflow_cast-high
 cast-put-u32-2 c = search rules
 
 put-u32-requires-2 : tie.Need-put_u32-requires
@@ -24,7 +24,7 @@ same_length : tie.Need-shape_of-out
 same_length c = search rules
 
 returns : tie.Need-returns
-returns c = eight_bytes _ (Next c.before.before).put_u32-next.ensures c.before.before.put_u32.ensures
+returns c = eight_bytes _ (Next c.before.before).put_u32-next.ensures c.put_u32.ensures
 
 pub put_u64_spec : {M : Type 1} → statement M
 put_u64_spec =
