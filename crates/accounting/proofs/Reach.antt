@@ -106,7 +106,7 @@ unfolding after_legs LegsTo AllCovered opened_lots
 reach_legs M lots d [] q c r = same_reach M _ _ d (omega arith) r
 reach_legs M lots d (leg sell close p n ∷ ls) q c r =
     same_reach M _ _ _ (let e = opened_cons (leg sell close p n) ls in omega arith)
-    (reach_legs M _ (after_day_leg d (leg sell close p n)) ls q.1 c.1 (reach_leg M lots d sell close p n q.0 c.0 r))
+    (reach_legs M (opened_lots (leg sell close p n ∷ []) + lots) (after_day_leg d (leg sell close p n)) ls q.1 c.1 (reach_leg M lots d sell close p n q.0 c.0 r))
 
 reach_start : (M reference long short : ℕ) → reference ≤ M → Reach M (long + short) (day_start reference long short)
 unfolding day_start sum_of PricedTo

@@ -26,18 +26,18 @@ put-byte-requires : tie.Need-put_byte-next-requires invariant-loop decreases-loo
 put-byte-requires c κs =
     let w = c.loop-i.invariant.1 in omega (
       arith,
-      (Begun c).requires.0,
+      c.requires.0,
       w.ends,
       w.kept,
-      length_part (Begun c).args.file.now
-          (Begun c).args.from c.loop-i.i (omega (arith, (Begun c).requires.1)),
+      length_part c.args.file.now
+          c.args.from c.loop-i.i (omega (arith, c.requires.1)),
     )
 
 loop-again : tie.Need-loop-i-preserved invariant-loop decreases-loop
 loop-again c =
     let start = Begun c.before.before.before in
     let head = Head c.before.before.before.before in
-    (omega arith, part_turn start.args.file.now start.args.from head.loop.i (omega (arith, start.requires.1)) head.loop.inv.1 c.put_byte-next.ensures)
+    (omega arith, part_turn start.args.file.now start.args.from head.loop-i.i (omega (arith, start.requires.1)) head.loop-i.invariant.1 c.put_byte-next.ensures)
 
 pub put_part_spec : {M : Type 1} → statement M
 put_part_spec = tie.close (tie.spec
@@ -45,7 +45,7 @@ put_part_spec = tie.close (tie.spec
     decreases-loop
     (λ c. (omega arith, no_byte _ _ (omega (arith, c.requires.0))))  -- loop-holds
     (λ c. omega (arith, c.requires.1))  -- overflow_add-byte
-    (λ c. omega (arith, (Head c).before.before.before.requires.1))  -- bounds-file-from
+    (λ c. omega (arith, c.requires.1))  -- bounds-file-from
     put-byte-requires
     (λ c. omega arith)  -- overflow_add-i
     (λ c. omega arith)  -- loop-less

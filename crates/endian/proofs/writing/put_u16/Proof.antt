@@ -15,4 +15,4 @@ put_u16_spec = tie.close (tie.spec
     (λ c. search rules)  -- overflow_cast-high
     (λ c κs. search rules)  -- put_byte-requires
     (λ c. search rules)  -- shape_of-out
-    (λ c. two_bytes _ (Next c.before.before).put_byte-next.ensures c.put_byte.ensures))  -- returns
+    (λ c. two_bytes _ c.put_byte-next.ensures c.put_byte.ensures))  -- returns

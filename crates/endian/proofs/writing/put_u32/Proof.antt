@@ -24,7 +24,7 @@ same_length : tie.Need-shape_of-out
 same_length c = search rules
 
 returns : tie.Need-returns
-returns c = four_bytes _ (Next c.before.before).put_u16-next.ensures c.put_u16.ensures
+returns c = four_bytes _ c.put_u16-next.ensures c.put_u16.ensures
 
 pub put_u32_spec : {M : Type 1} → statement M
 put_u32_spec =

@@ -24,7 +24,7 @@ same_length : tie.Need-shape_of-out
 same_length c = search rules
 
 returns : tie.Need-returns
-returns c = eight_bytes _ (Next c.before.before).put_u32-next.ensures c.put_u32.ensures
+returns c = eight_bytes _ c.put_u32-next.ensures c.put_u32.ensures
 
 pub put_u64_spec : {M : Type 1} → statement M
 put_u64_spec =
