@@ -22,7 +22,7 @@ use Rattle.book.proofs.Queues.{put_over}
 
 module _ (quote : Bool) (account : ℕ) (o : Order) where
   pub pulled_another : (o.account ≡ account → ⊥) → false ≡ is_pulled quote account o
-  pulled_another h = elim quote [ true ↦ sym (rw (ne_eqb o.account account h)) | false ↦ sym (ne_eqb o.account account h) ]
+  pulled_another h = elim quote as (λ s. _) [ true ↦ sym (rw (ne_eqb o.account account h)) | false ↦ sym (ne_eqb o.account account h) ]
 
   pub pulled_quote : o.account ≡ account → quote ≡ true → eqb o.quote 1 ≡ is_pulled quote account o
   pulled_quote h t = sym (ap (λ (b : Bool). is_pulled b account o) t ∙ rw (eq-eqb o.account account h))

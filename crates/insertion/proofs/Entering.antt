@@ -52,7 +52,7 @@ use Rattle.refusals.proofs.Sides.{contract_is, contract_terms, held_low, opposit
 
 module _ (sell : Bool) (c : Contract) (mine others : List Order) where
   own_with : own sell (with_queues sell c mine others) ≡ mine
-  own_with = elim sell [ true ↦ refl | false ↦ refl ]
+  own_with = elim sell as (λ s. _) [ true ↦ refl | false ↦ refl ]
 
 -- ---- and each written where it lies
 

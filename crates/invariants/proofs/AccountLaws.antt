@@ -45,7 +45,7 @@ resting_now m w =
     let k = (sound m w).contents in
     record {
       opens = λ a c l h sell. (k.holding a c l h).opens sell;
-      closes = λ a c l h sell. elim sell [ false ↦ (k.holding a c l h).closes false | true ↦ (k.holding a c l h).closes true ];
+      closes = λ a c l h sell. elim sell as (λ s. _) [ false ↦ (k.holding a c l h).closes false | true ↦ (k.holding a c l h).closes true ];
     }
 
 -- .. and so in every memory that a run from one leaves

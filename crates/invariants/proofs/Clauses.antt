@@ -80,9 +80,9 @@ module _ (accounts next nextstamp : ℕ) (m : Listing) where
       let q = both_true (order_test m.buys) (order_test m.sells) o in
       record {
         contract = k;
-        order = λ sell. elim sell [ false ↦ p.0 | true ↦ p.1.0 ];
+        order = λ sell. elim sell as (λ s. _) [ false ↦ p.0 | true ↦ p.1.0 ];
         apart = unless (in_auction m.contract) (uncrossed m.buys m.sells) p.1.1;
-        orders = λ sell. elim sell [ false ↦ q.0 | true ↦ q.1 ];
+        orders = λ sell. elim sell as (λ s. _) [ false ↦ q.0 | true ↦ q.1 ];
       }
 
   queues_test : ListingOk accounts next nextstamp m → queues_sorted m ≡ true
@@ -118,7 +118,7 @@ module _ (accounts : List Account) where
   unfolding listing_quoted
   both_marks_ok m h sell =
       let p = both_true (queue_quoted accounts m.buys) (queue_quoted accounts m.sells) h in
-      elim sell [ false ↦ marks_ok m.buys p.0 | true ↦ marks_ok m.sells p.1 ]
+      elim sell as (λ s. _) [ false ↦ marks_ok m.buys p.0 | true ↦ marks_ok m.sells p.1 ]
 
   both_marks_test : (m : Listing) → ((sell : Bool) → MarksOk accounts (own sell m)) → listing_quoted accounts m ≡ true
   unfolding listing_quoted
@@ -199,8 +199,8 @@ module _ (m : Listing) (a : ℕ) (h : Holding) where
       record {
         startlong = omega (arith, leb-true);
         startshort = omega (arith, leb-true);
-        opens = λ sell. elim sell [ false ↦ leb-true _ _ p.1.1.0 | true ↦ leb-true _ _ p.1.1.1.0 ];
-        closes = λ sell. elim sell [ false ↦ leb-true _ _ p.1.1.1.1.1 | true ↦ leb-true _ _ p.1.1.1.1.0 ];
+        opens = λ sell. elim sell as (λ s. _) [ false ↦ leb-true _ _ p.1.1.0 | true ↦ leb-true _ _ p.1.1.1.0 ];
+        closes = λ sell. elim sell as (λ s. _) [ false ↦ leb-true _ _ p.1.1.1.1.1 | true ↦ leb-true _ _ p.1.1.1.1.0 ];
       }
 
   pub holding_test : HoldingOk m a h → holding_in_range m a h ≡ true

@@ -36,7 +36,7 @@ module _ (accounts next nextstamp : ℕ) where
       record {
         mine_sorted = k.order sell;
         others_sorted = rw other_own at (k.order (not sell));
-        sides_uncrossed = elim sell [ false ↦ k.apart | true ↦ k.apart ];
+        sides_uncrossed = elim sell as (λ s. _) [ false ↦ k.apart | true ↦ k.apart ];
         mine_orders = k.orders sell;
         others_orders = rw other_own at (k.orders (not sell));
       }
@@ -46,16 +46,16 @@ module _ (accounts next nextstamp : ℕ) where
   sides_listing true c mine others r k =
       record {
         contract = r;
-        order = λ side. elim side [ false ↦ k.others_sorted | true ↦ k.mine_sorted ];
+        order = λ side. elim side as (λ s. _) [ false ↦ k.others_sorted | true ↦ k.mine_sorted ];
         apart = k.sides_uncrossed;
-        orders = λ side. elim side [ false ↦ k.others_orders | true ↦ k.mine_orders ];
+        orders = λ side. elim side as (λ s. _) [ false ↦ k.others_orders | true ↦ k.mine_orders ];
       }
   sides_listing false c mine others r k =
       record {
         contract = r;
-        order = λ side. elim side [ false ↦ k.mine_sorted | true ↦ k.others_sorted ];
+        order = λ side. elim side as (λ s. _) [ false ↦ k.mine_sorted | true ↦ k.others_sorted ];
         apart = k.sides_uncrossed;
-        orders = λ side. elim side [ false ↦ k.mine_orders | true ↦ k.others_orders ];
+        orders = λ side. elim side as (λ s. _) [ false ↦ k.mine_orders | true ↦ k.others_orders ];
       }
 
 -- ---- the remainder comes to rest, if there is one

@@ -199,8 +199,8 @@ module _ (x : Exchange) (k : WellFormed x) (c : ℕ) (there : c < length x.listi
         record {
           startlong = rw (ap (λ (h : Holding). h.startlong) s) q.startlong;
           startshort = rw (ap (λ (h : Holding). h.startshort) s) q.startshort;
-          opens = λ side. elim side [ false ↦ r.buy_opens_lem | true ↦ r.sell_opens_lem ];
-          closes = λ side. elim side [ false ↦ r.buy_closes_lem | true ↦ r.sell_closes_lem ];
+          opens = λ side. elim side as (λ s. _) [ false ↦ r.buy_opens_lem | true ↦ r.sell_opens_lem ];
+          closes = λ side. elim side as (λ s. _) [ false ↦ r.buy_closes_lem | true ↦ r.sell_closes_lem ];
         }
 
     trades_ok : TradesOk x c after (match_of x c).trades x.next x.nextstamp

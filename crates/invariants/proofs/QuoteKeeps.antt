@@ -70,7 +70,7 @@ module _ (x : Exchange) (w : WellFormed x) (q : Offered) (account_there : place_
 
   pub none_marked : (sell : Bool) → quotes account (own sell (listing_at (without_quote x q) place)) ≡ 0
   none_marked sell = rw gone_listing
-      (elim sell [ false ↦ none_left account (listing_at x place).buys | true ↦ none_left account (listing_at x place).sells ])
+      (elim sell as (λ s. _) [ false ↦ none_left account (listing_at x place).buys | true ↦ none_left account (listing_at x place).sells ])
 
   -- ---- the buy, which passes its tests
 

@@ -204,7 +204,7 @@ settled_stamped x =
     record {
       next = refl;
       orders = λ c sell. rw (settled_none (length x.listings) (settled_listing x) c sell (λ i.
-          (elim sell [ false ↦ refl | true ↦ refl ]))) refl;
+          (elim sell as (λ s. _) [ false ↦ refl | true ↦ refl ]))) refl;
     }
 
 -- where each order enters with one number for both, it stays so
