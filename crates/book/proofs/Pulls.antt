@@ -1,5 +1,6 @@
 -- A pull: a queue walked from front to back, the orders that satisfy a test taken out and the others written closed up. What holds when i
 -- orders are read and `kept` of them are kept, what a turn does to it, and the end. Assumes nothing.
+use Rattle.laws.specs.Choice.{for_either}
 use borrow.Rule.Slice.PartMut.{put_mid}
 use Rattle.laws.specs.Logic.{Bool, true, false, List, [], ◌∷◌, ◌++◌, append-nil, ◌≡◌, refl, sym, ap, ◌∙◌}
 use Rattle.laws.specs.Numbers.{ℕ, ◌+◌, ◌-◌, ◌*◌, ◌<◌, ◌≤◌, add-one, arith, eq-eqb, ne_eqb, eqb, length, get_or, take, drop, replicate, length-append, take_all}
@@ -22,7 +23,7 @@ use Rattle.book.proofs.Queues.{put_over}
 
 module _ (quote : Bool) (account : ℕ) (o : Order) where
   pub pulled_another : (o.account ≡ account → ⊥) → false ≡ is_pulled quote account o
-  pulled_another h = elim quote as (λ s. _) [ true ↦ sym (rw (ne_eqb o.account account h)) | false ↦ sym (ne_eqb o.account account h) ]
+  pulled_another h = for_either quote (sym (ne_eqb o.account account h)) (sym (rw (ne_eqb o.account account h)))
 
   pub pulled_quote : o.account ≡ account → quote ≡ true → eqb o.quote 1 ≡ is_pulled quote account o
   pulled_quote h t = sym (ap (λ (b : Bool). is_pulled b account o) t ∙ rw (eq-eqb o.account account h))

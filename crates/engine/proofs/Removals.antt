@@ -10,7 +10,7 @@ use native.Mathlib.Omega.{arith}
 use borrow.Author.Tests.{eq-eqb, ne_eqb}
 use lib.Dec.{eqb}
 use lib.ListN.{length, get_or, set, drop}
-use Rattle.laws.specs.Choice.{pick, all_of, all_of_at, either_true}
+use Rattle.laws.specs.Choice.{pick, all_of, all_of_at, either_true, for_either}
 use Rattle.laws.specs.Sums.{sum_of_bound}
 use Rattle.areas.specs.Lists.{remove_at}
 use Rattle.areas.proofs.Lists.{length_remove_at}
@@ -62,7 +62,7 @@ module _ (c : Contract) (operator : Bool) where
 
   pub in_no_trading : c.phase ≡ no_trading → not operator ≡ removalRefused c operator
   unfolding removalRefused
-  in_no_trading e = sym (rw e (elim operator as (λ s. _) [ true ↦ refl | false ↦ refl ]))
+  in_no_trading e = sym (rw e (for_either operator refl refl))
 
   pub in_any_other : c.phase ≢ 1 → c.phase ≢ 2 → in_auction c ≡ false → true ≡ removalRefused c operator
   unfolding removalRefused

@@ -7,7 +7,7 @@ use Prim.Native.Nat.{ℕ, ◌+◌, ◌<◌, ◌≤◌}
 use native.Mathlib.Omega.{arith}
 use borrow.Author.Tests.{le-ltb, ltb-false}
 use lib.ListN.{length, get_or}
-use Rattle.laws.specs.Choice.{ap_pick, pick, pick_false}
+use Rattle.laws.specs.Choice.{ap_pick, pick, pick_false, for_either}
 use Rattle.rules.specs.Answers.{insertRefusals, listingOf, orderRefusals, taker_of, tradesNeeded, tradesRefused, takerFor}
 use Rattle.rules.specs.Bounds.{in_auction, max_resting, max_trades, max_contracts, numbers_end}
 use Rattle.rules.specs.Exchange.{Exchange, Listing, opposite, own, place_of, with_queues}
@@ -52,7 +52,7 @@ use Rattle.refusals.proofs.Sides.{contract_is, contract_terms, held_low, opposit
 
 module _ (sell : Bool) (c : Contract) (mine others : List Order) where
   own_with : own sell (with_queues sell c mine others) ≡ mine
-  own_with = elim sell as (λ s. _) [ true ↦ refl | false ↦ refl ]
+  own_with = for_either sell refl refl
 
 -- ---- and each written where it lies
 

@@ -2,7 +2,7 @@
 -- commands leaves. Assumes nothing.
 use Rattle.laws.specs.Logic.{Bool, true, false, not, false≢true, List, [], ◌∷◌, ◌≡◌, refl, sym, ap, subst, subst⁻¹, ◌∙◌}
 use Rattle.laws.specs.Numbers.{ℕ, ◌+◌, ◌<◌, arith, eqb-true, not-true, eqb}
-use Rattle.laws.specs.Choice.{pick, all_of, both_true}
+use Rattle.laws.specs.Choice.{pick, all_of, both_true, for_either}
 use Rattle.rules.specs.Command.{Field, unused, holds, account_field, is_settle}
 use Rattle.rules.specs.Condition3.{accounts_of, contracts_of, run}
 use Rattle.rules.specs.Exchange.{Exchange, place_of}
@@ -45,7 +45,7 @@ resting_now m w =
     let k = (sound m w).contents in
     record {
       opens = λ a c l h sell. (k.holding a c l h).opens sell;
-      closes = λ a c l h sell. elim sell as (λ s. _) [ false ↦ (k.holding a c l h).closes false | true ↦ (k.holding a c l h).closes true ];
+      closes = λ a c l h sell. for_either sell ((k.holding a c l h).closes false) ((k.holding a c l h).closes true);
     }
 
 -- .. and so in every memory that a run from one leaves

@@ -3,7 +3,7 @@
 use lib.IntN.{nat_abs}
 use Rattle.laws.specs.Logic.{Bool, true, false, not, ◌||◌, true≢false, List, [], ◌∷◌, ◌≡◌, refl}
 use Rattle.laws.specs.Numbers.{ℕ, ◌+◌, ◌*◌, ◌<◌, ◌≤◌, arith, leb-true, ltb-true, le-leb, lt-ltb, eqb, leb, ltb, length}
-use Rattle.laws.specs.Choice.{pick, all, all_of, all_at, all_true, all_of_at, all_of_true, both_true, true_both}
+use Rattle.laws.specs.Choice.{pick, all, all_of, all_at, all_true, all_of_at, all_of_true, both_true, true_both, for_either}
 use Rattle.laws.specs.Chains.{Passed, all_passed, join}
 use Rattle.rules.specs.Bounds.{within, allowed_today, in_auction, numbers_end, max_contracts, max_trades, max_resting, max_lots, max_settlements, max_balance, max_day_profit}
 use Rattle.rules.specs.Exchange.{Exchange, Listing, listing_at, account_at, holding_at, own, resting_opens, resting_closes, no_listing, no_account}
@@ -80,9 +80,9 @@ module _ (accounts next nextstamp : ℕ) (m : Listing) where
       let q = both_true (order_test m.buys) (order_test m.sells) o in
       record {
         contract = k;
-        order = λ sell. elim sell as (λ s. _) [ false ↦ p.0 | true ↦ p.1.0 ];
+        order = λ sell. for_either sell p.0 p.1.0;
         apart = unless (in_auction m.contract) (uncrossed m.buys m.sells) p.1.1;
-        orders = λ sell. elim sell as (λ s. _) [ false ↦ q.0 | true ↦ q.1 ];
+        orders = λ sell. for_either sell q.0 q.1;
       }
 
   queues_test : ListingOk accounts next nextstamp m → queues_sorted m ≡ true
@@ -118,7 +118,7 @@ module _ (accounts : List Account) where
   unfolding listing_quoted
   both_marks_ok m h sell =
       let p = both_true (queue_quoted accounts m.buys) (queue_quoted accounts m.sells) h in
-      elim sell as (λ s. _) [ false ↦ marks_ok m.buys p.0 | true ↦ marks_ok m.sells p.1 ]
+      for_either sell (marks_ok m.buys p.0) (marks_ok m.sells p.1)
 
   both_marks_test : (m : Listing) → ((sell : Bool) → MarksOk accounts (own sell m)) → listing_quoted accounts m ≡ true
   unfolding listing_quoted
@@ -199,8 +199,8 @@ module _ (m : Listing) (a : ℕ) (h : Holding) where
       record {
         startlong = omega (arith, leb-true);
         startshort = omega (arith, leb-true);
-        opens = λ sell. elim sell as (λ s. _) [ false ↦ leb-true _ _ p.1.1.0 | true ↦ leb-true _ _ p.1.1.1.0 ];
-        closes = λ sell. elim sell as (λ s. _) [ false ↦ leb-true _ _ p.1.1.1.1.1 | true ↦ leb-true _ _ p.1.1.1.1.0 ];
+        opens = λ sell. for_either sell (leb-true _ _ p.1.1.0) (leb-true _ _ p.1.1.1.0);
+        closes = λ sell. for_either sell (leb-true _ _ p.1.1.1.1.1) (leb-true _ _ p.1.1.1.1.0);
       }
 
   pub holding_test : HoldingOk m a h → holding_in_range m a h ≡ true

@@ -2,7 +2,7 @@
 -- and a change of state that leaves auction; throughout a run, and of the memory that a call leaves. Assumes nothing.
 use Rattle.laws.specs.Logic.{Bool, true, false, List, [], ◌∷◌, ◌++◌, ◌≡◌, refl, ap, subst⁻¹, ◌∙◌}
 use Rattle.laws.specs.Numbers.{ℕ, ◌+◌, ◌<◌, arith, length, get_or-set_same}
-use Rattle.laws.specs.Choice.{pick, pick_true}
+use Rattle.laws.specs.Choice.{pick, pick_true, for_either}
 use Rattle.rules.specs.Answers.{phaseRefusals}
 use Rattle.rules.specs.Auction.{match_of}
 use Rattle.rules.specs.Bounds.{in_auction}
@@ -104,7 +104,7 @@ module _ (x : Exchange) (k : Sound x) (contract phase : ℕ) (e : code_of x (Pha
 
   left_queues : (sell : Bool) → own sell (listing_at (exchange_matched x c phase (auction_of x c)) c) ≡ left_on sell (auction_of x c)
   unfolding listing_matched
-  left_queues sell = ap (own sell) left_listing ∙ (elim sell as (λ s. _) [ false ↦ refl | true ↦ refl ])
+  left_queues sell = ap (own sell) left_listing ∙ (for_either sell refl refl)
 
   auction_held : AuctionHeld x c phase (step x (Phase contract phase))
   unfolding exchange_matched

@@ -3,7 +3,7 @@
 -- Assumes nothing.
 use Rattle.laws.specs.Logic.{Bool, true, false, not, ◌&&◌, true≢false, List, [], ◌∷◌, ◌≡◌, refl, sym, ap, subst, ◌∙◌}
 use Rattle.laws.specs.Numbers.{ℕ, ◌+◌, ◌-◌, ◌<◌, ◌≤◌, le_refl, arith, eqb-true, leb-true, leb-false, eqb, leb, length}
-use Rattle.laws.specs.Choice.{pick, all_of, by_test}
+use Rattle.laws.specs.Choice.{pick, all_of, by_test, for_either}
 use Rattle.laws.specs.Sums.{sum_of, sum_of_at}
 use Rattle.rules.specs.Answers.{first_of, insertRefusals, isGoodForDay, mark, listingOf, taker_of, fillableLots}
 use Rattle.rules.specs.Bounds.{in_auction, max_resting}
@@ -51,8 +51,8 @@ holding_by_lem sell c mine others d accounts a l s k =
     record {
       startlong = l;
       startshort = s;
-      opens = λ side. elim side as (λ s. _) [ false ↦ k.buy_opens_lem | true ↦ k.sell_opens_lem ];
-      closes = λ side. elim side as (λ s. _) [ false ↦ k.buy_closes_lem | true ↦ k.sell_closes_lem ];
+      opens = λ side. for_either side k.buy_opens_lem k.sell_opens_lem;
+      closes = λ side. for_either side k.buy_closes_lem k.sell_closes_lem;
     }
 
 -- what holds of its own queue and of the other holds of the queues of both sides

@@ -3,7 +3,7 @@
 use borrow.Author.Rules.{rules}
 use Rattle.laws.specs.Logic.{Bool, true, false, not, ◌&&◌, List, ◌∷◌, ◌≡◌, refl}
 use Rattle.laws.specs.Numbers.{ℕ, zero, suc, ◌+◌, ◌<◌, ◌≤◌, arith, eqb, ltb, length}
-use Rattle.laws.specs.Choice.{pick, all_of}
+use Rattle.laws.specs.Choice.{pick, all_of, for_either}
 use Rattle.laws.specs.Sums.{sum_of}
 use Rattle.rules.specs.Bounds.{in_auction}
 use Rattle.rules.specs.Exchange.{Listing, own, opposite, with_queues, resting, lots_where}
@@ -36,7 +36,7 @@ module _ (accounts next nextstamp : ℕ) where
       record {
         mine_sorted = k.order sell;
         others_sorted = rw other_own at (k.order (not sell));
-        sides_uncrossed = elim sell as (λ s. _) [ false ↦ k.apart | true ↦ k.apart ];
+        sides_uncrossed = for_either sell k.apart k.apart;
         mine_orders = k.orders sell;
         others_orders = rw other_own at (k.orders (not sell));
       }
@@ -46,16 +46,16 @@ module _ (accounts next nextstamp : ℕ) where
   sides_listing true c mine others r k =
       record {
         contract = r;
-        order = λ side. elim side as (λ s. _) [ false ↦ k.others_sorted | true ↦ k.mine_sorted ];
+        order = λ side. for_either side k.others_sorted k.mine_sorted;
         apart = k.sides_uncrossed;
-        orders = λ side. elim side as (λ s. _) [ false ↦ k.others_orders | true ↦ k.mine_orders ];
+        orders = λ side. for_either side k.others_orders k.mine_orders;
       }
   sides_listing false c mine others r k =
       record {
         contract = r;
-        order = λ side. elim side as (λ s. _) [ false ↦ k.mine_sorted | true ↦ k.others_sorted ];
+        order = λ side. for_either side k.mine_sorted k.others_sorted;
         apart = k.sides_uncrossed;
-        orders = λ side. elim side as (λ s. _) [ false ↦ k.mine_orders | true ↦ k.others_orders ];
+        orders = λ side. for_either side k.mine_orders k.others_orders;
       }
 
 -- ---- the remainder comes to rest, if there is one

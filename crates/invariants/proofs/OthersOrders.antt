@@ -3,7 +3,7 @@
 use lib.IntN.{ℤ}
 use Rattle.laws.specs.Logic.{Bool, true, false, not, ◌&&◌, List, [], ◌++◌, append-nil, append_assoc, ◌≡◌, refl, sym, ap, ◌∙◌}
 use Rattle.laws.specs.Numbers.{ℕ, ◌+◌, ◌<◌, ◌≤◌, arith, eqb-true, eqb-false, ne_eqb, eqb, length, length-set, get_or-set_same}
-use Rattle.laws.specs.Choice.{pick, all_of, all_of_imp}
+use Rattle.laws.specs.Choice.{pick, all_of, all_of_imp, for_either}
 use Rattle.rules.specs.Answers.{cancelRefusals, first_of, listingOf, namedRefusals, ownerRefusals, removalRefused, restingOrder, taker_of}
 use Rattle.rules.specs.Auction.{match_of}
 use Rattle.rules.specs.Bounds.{on_tick}
@@ -180,7 +180,7 @@ module _ (a : ℕ) where
     unfolding exchange_matched listing_matched listing_at
     matched_fated phase =
         fated_in d (match_of x d).trades x _ (matched_in x d phase) (λ sell. rw (get_or-set_same x.listings d _ no_listing there)
-        (elim sell as (λ s. _) [ false ↦ met.0 | true ↦ met.1 ]))
+        (for_either sell met.0 met.1))
 
   -- ---- a quote: the old one removed, the buy entered, the sell entered
 

@@ -2,7 +2,7 @@
 -- leaves is uncrossed. Assumes nothing.
 use Rattle.laws.specs.Logic.{Bool, true, false, not, List, [], ◌∷◌, ◌≡◌, refl, sym, ap, subst}
 use Rattle.laws.specs.Numbers.{ℕ, ◌+◌, ◌<◌, ◌≤◌, le_refl, arith, eqb-true, leb-true, ltb-false, le-leb, lt-ltb, not-false, eqb, length, get_or-set_same}
-use Rattle.laws.specs.Choice.{pick, all_of, all_of_imp}
+use Rattle.laws.specs.Choice.{pick, all_of, all_of_imp, for_either}
 use Rattle.laws.specs.Chains.{all_passed, join}
 use Rattle.laws.specs.Sums.{sum_of_at}
 use Rattle.rules.specs.Answers.{◌when◌, first_of, phaseRefusals}
@@ -199,8 +199,8 @@ module _ (x : Exchange) (k : WellFormed x) (c : ℕ) (there : c < length x.listi
         record {
           startlong = rw (ap (λ (h : Holding). h.startlong) s) q.startlong;
           startshort = rw (ap (λ (h : Holding). h.startshort) s) q.startshort;
-          opens = λ side. elim side as (λ s. _) [ false ↦ r.buy_opens_lem | true ↦ r.sell_opens_lem ];
-          closes = λ side. elim side as (λ s. _) [ false ↦ r.buy_closes_lem | true ↦ r.sell_closes_lem ];
+          opens = λ side. for_either side r.buy_opens_lem r.sell_opens_lem;
+          closes = λ side. for_either side r.buy_closes_lem r.sell_closes_lem;
         }
 
     trades_ok : TradesOk x c after (match_of x c).trades x.next x.nextstamp

@@ -3,7 +3,7 @@
 use borrow.Author.Rules.{rules}
 use Rattle.laws.specs.Logic.{Bool, true, false, List, [], ◌∷◌, ◌≡◌, refl, ◌∙◌}
 use Rattle.laws.specs.Numbers.{ℕ, ◌+◌, ◌<◌, ◌≤◌, arith, eqb-true, not-false, eqb, length, length-set, get_or-set_same}
-use Rattle.laws.specs.Choice.{pick}
+use Rattle.laws.specs.Choice.{pick, for_either}
 use Rattle.laws.specs.Sums.{sum_of}
 use Rattle.rules.specs.Answers.{first_of, listingOf, orderRefusals, taker_of}
 use Rattle.rules.specs.Exchange.{Exchange, Listing, account_at, listing_at, no_listing, own, place_of}
@@ -70,7 +70,7 @@ module _ (x : Exchange) (w : WellFormed x) (q : Offered) (account_there : place_
 
   pub none_marked : (sell : Bool) → quotes account (own sell (listing_at (without_quote x q) place)) ≡ 0
   none_marked sell = rw gone_listing
-      (elim sell as (λ s. _) [ false ↦ none_left account (listing_at x place).buys | true ↦ none_left account (listing_at x place).sells ])
+      (for_either sell (none_left account (listing_at x place).buys) (none_left account (listing_at x place).sells))
 
   -- ---- the buy, which passes its tests
 

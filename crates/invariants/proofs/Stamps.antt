@@ -3,7 +3,7 @@
 -- and number. Assumes nothing.
 use Rattle.laws.specs.Logic.{Bool, true, false, ◌&&◌, ◌||◌, false≢true, List, [], ◌∷◌, ◌≡◌, refl, sym, ◌∙◌}
 use Rattle.laws.specs.Numbers.{ℕ, zero, suc, ◌+◌, ◌≤◌, le_refl, arith, eqb-true, eq-eqb, eqb, ltb, length, get_or}
-use Rattle.laws.specs.Choice.{all_of, all_of_imp, both_true, true_both, true_either, either_true}
+use Rattle.laws.specs.Choice.{all_of, all_of_imp, both_true, true_both, true_either, either_true, for_either}
 use Rattle.laws.specs.Tabulate.{tabulate}
 use Rattle.rules.specs.Answers.{numbersUsedUp, stampsUsedUp, taker_of}
 use Rattle.rules.specs.Auction.{match_of}
@@ -204,7 +204,7 @@ settled_stamped x =
     record {
       next = refl;
       orders = λ c sell. rw (settled_none (length x.listings) (settled_listing x) c sell (λ i.
-          (elim sell as (λ s. _) [ false ↦ refl | true ↦ refl ]))) refl;
+          (for_either sell refl refl))) refl;
     }
 
 -- where each order enters with one number for both, it stays so

@@ -7,12 +7,12 @@ use Rattle.book.proofs.queue.insert.Tie as tie
 returns : tie.Need-returns
 returns c =
     let placed = c.before.before.before.before in
-    let start = placed.before.before.before in
-    rested_order start.args.area.now start.args.c start.args.count start.args.sell _ start.args.o placed.place.ensures c.before.before.insert-at.ensures
+    let start = placed.before in
+    rested_order start.args.area.now start.args.c start.args.count start.args.sell _ start.args.o placed.place-i.ensures c.insert_at.ensures
 
-pub insert-spec : {M : Type 1} → statement M
-insert-spec = tie.close (tie.spec
-    (λ c κs. search rules)  -- place-requires
-    (λ c κs. (found_within _ _ _ _ _ c.before.place.ensures, c.before.before.before.before.requires))  -- insert-at-requires
-    (λ c. search rules)  -- same-length
+pub insert_spec : {M : Type 1} → statement M
+insert_spec = tie.close (tie.spec
+    (λ c κs. search rules)  -- place-i-requires
+    (λ c κs. (found_within _ _ _ _ _ c.place-i.ensures, c.before.requires))  -- insert_at-requires
+    (λ c. search rules)  -- shape_of-area
     returns)

@@ -14,21 +14,21 @@ Begun c = c.before.before.before
 returns : tie.Need-returns
 returns c =
     let start = Begun c.before.before in
-    inserted_order start.args.area.now start.args.c start.args.count start.args.i start.args.o _ _ _ start.pre.0 refl refl start.pre.1 c.before.before.shift.ensures
+    inserted_order start.args.area.now start.args.c start.args.count start.args.i start.args.o _ _ _ start.requires.0 refl refl start.requires.1 c.shift.ensures
 
-pub insert-at-spec : {M : Type 1} → statement M
-insert-at-spec = tie.close (tie.spec
-    (λ c. search rules)  -- mul-a
-    (λ c. search rules)  -- mul-a-2
-    (λ c. search rules)  -- add-a
-    (λ c. search rules)  -- mul-e
-    (λ c. search rules)  -- mul-e-2
-    (λ c. search rules)  -- add-e
-    (λ c. search rules)  -- add-e-2
-    (λ c. search rules)  -- mul-shift
-    (λ c. search rules)  -- sub-shift
-    (λ c. search rules)  -- part-shift-start
-    (λ c. search rules)  -- part-shift-end
+pub insert_at_spec : {M : Type 1} → statement M
+insert_at_spec = tie.close (tie.spec
+    (λ c. search rules)  -- overflow_mul-a
+    (λ c. search rules)  -- overflow_mul-a-2
+    (λ c. search rules)  -- overflow_add-a
+    (λ c. search rules)  -- overflow_mul-e
+    (λ c. search rules)  -- overflow_mul-e-2
+    (λ c. search rules)  -- overflow_add-e
+    (λ c. search rules)  -- overflow_add-e-2
+    (λ c. search rules)  -- offset_bounds-area-a
+    (λ c. search rules)  -- slice_bounds-shift-count
+    (λ c. search rules)  -- slice_bounds-shift-start
+    (λ c. search rules)  -- slice_bounds-shift-end
     (λ c κs. simp (length-take, length-drop) (omega arith))  -- shift-requires
-    (λ c. search rules)  -- same-length
+    (λ c. search rules)  -- shape_of-area
     returns)

@@ -6,26 +6,26 @@ use Rattle.book.proofs.queue.remove.Statement.{statement}
 use Rattle.book.proofs.queue.remove.Tie as tie
 
 -- back to the start
-abbrev Begun : tie.After-close-up → tie.Start
+abbrev Begun : tie.After-close_up → tie.Start
 Begun c = c.before.before.before
 
 returns : tie.Need-returns
 returns c =
     let start = Begun c.before.before in
-    removed_order start.args.area.now start.args.c start.args.count start.args.i _ _ _ start.pre.0 refl refl start.pre.1 c.before.before.close_up.ensures
+    removed_order start.args.area.now start.args.c start.args.count start.args.i _ _ _ start.requires.0 refl refl start.requires.1 c.close_up.ensures
 
-pub remove-spec : {M : Type 1} → statement M
-remove-spec = tie.close (tie.spec
-    (λ c. search rules)  -- mul-a
-    (λ c. search rules)  -- mul-a-2
-    (λ c. search rules)  -- add-a
-    (λ c. search rules)  -- mul-e
-    (λ c. search rules)  -- mul-e-2
-    (λ c. search rules)  -- add-e
-    (λ c. search rules)  -- mul-close-up
-    (λ c. search rules)  -- sub-close-up
-    (λ c. search rules)  -- part-close-up-start
-    (λ c. search rules)  -- part-close-up-end
-    (λ c κs. search rules)  -- close-up-requires
-    (λ c. search rules)  -- same-length
+pub remove_spec : {M : Type 1} → statement M
+remove_spec = tie.close (tie.spec
+    (λ c. search rules)  -- overflow_mul-a
+    (λ c. search rules)  -- overflow_mul-a-2
+    (λ c. search rules)  -- overflow_add-a
+    (λ c. search rules)  -- overflow_mul-e
+    (λ c. search rules)  -- overflow_mul-e-2
+    (λ c. search rules)  -- overflow_add-e
+    (λ c. search rules)  -- offset_bounds-area-a
+    (λ c. search rules)  -- slice_bounds-close_up-count
+    (λ c. search rules)  -- slice_bounds-close_up-start
+    (λ c. search rules)  -- slice_bounds-close_up-end
+    (λ c κs. search rules)  -- close_up-requires
+    (λ c. search rules)  -- shape_of-area
     returns)

@@ -10,11 +10,11 @@ returns c =
     let put = c.before.before in
     let moved = put.before.before.before.before in
     let start = moved.before.before.before in
-    put.put.ensures ∙ shift_in start.args.part.now _ start.args.o start.requires moved.move-back.ensures
+    put.put.ensures ∙ shift_in start.args.part.now _ start.args.o start.requires moved.move_back.ensures
 
-pub shift-spec : {M : Type 1} → statement M
-shift-spec = tie.close (tie.spec
-    (λ c κs. search rules)  -- move-back-requires
+pub shift_spec : {M : Type 1} → statement M
+shift_spec = tie.close (tie.spec
+    (λ c κs. search rules)  -- move_back-requires
     (λ c κs. search rules)  -- put-requires
-    (λ c. search rules)  -- same-length
+    (λ c. search rules)  -- shape_of-part
     returns)

@@ -2,7 +2,7 @@
 use Rattle.book.proofs.queue.worse.Statement.{statement}
 use Rattle.book.proofs.queue.worse.Tie as tie
 
-pub worse-spec : {M : Type 1} → statement M
-worse-spec = tie.close (tie.spec
-    (λ c. rw c.if1.true)  -- returns
-    (λ c. rw c.if1.false))  -- returns-2
+pub worse_spec : {M : Type 1} → statement M
+worse_spec = tie.close (tie.spec
+    (λ c. rw c.if-sell.true)  -- returns-then-sell
+    (λ c. rw c.if-sell.false))  -- returns-2

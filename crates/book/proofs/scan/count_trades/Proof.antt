@@ -14,41 +14,41 @@ use Rattle.book.proofs.Scans.{test_failed, test_passed, trades_used, trades_on}
 use Rattle.book.proofs.scan.count_trades.Statement.{statement}
 use Rattle.book.proofs.scan.count_trades.Tie as tie
 
-abbrev invariant-loop : tie.invariant-loop
+abbrev invariant-loop : tie.invariant-loop-i
 invariant-loop area c count t lots condition left₀ i₀ left i =
     (i ≤ count) × (i + count_trades t left (drop i (queue_in area c count)) ≡ count_trades t lots (queue_in area c count))
 
-abbrev decreases-loop : tie.decreases-loop
+abbrev decreases-loop : tie.decreases-loop-i
 decreases-loop area c count t lots condition left₀ i₀ left i = count - i
 
-returns-2 : tie.Need-returns-2 invariant-loop decreases-loop
+returns-2 : tie.Need-returns-then-not-meets invariant-loop decreases-loop
 returns-2 c =
     let read = c.before.before in
     let at = read.before.before.before in
-    tally_stop (count_trades _ _) _ _ _ _ _ _ at.loop.invariant.1 _ read.before.before.loop-test.true read.order_at_lem.ensures
-    (λ os. count_unmet _ _ _ os (test_failed _ _ c.before.meets.ensures c.if2.true))
+    tally_stop (count_trades _ _) _ _ _ _ _ _ at.loop-i.invariant.1 _ read.loop-i-test.true read.order_at-o.ensures
+    (λ os. count_unmet _ _ _ os (test_failed _ _ c.meets.ensures c.if-not-meets.true))
 
-loop-again : tie.Need-loop-preserved invariant-loop decreases-loop
+loop-again : tie.Need-loop-i-preserved invariant-loop decreases-loop
 loop-again c =
     let read = c.before.before.before in
     let at = read.before.before.before in (
       omega arith,
-      tally_on (count_trades _ _) _ _ _ _ _ _ at.loop.invariant.1 _ read.before.before.loop-test.true read.order_at_lem.ensures
-          (count_trades _ _) 1 (trades_on _ _ _ _ read.before.if1.false c.smaller.ensures (test_passed _ _ c.before.before.meets.ensures c.before.if2.false)),
+      tally_on (count_trades _ _) _ _ _ _ _ _ at.loop-i.invariant.1 _ read.loop-i-test.true read.order_at-o.ensures
+          (count_trades _ _) 1 (trades_on _ _ _ _ read.if-left-eq0.false c.smaller-size.ensures (test_passed _ _ c.meets.ensures c.if-not-meets.false)),
     )
 
-pub count-trades-spec : {M : Type 1} → statement M
-count-trades-spec = tie.close (tie.spec
+pub count_trades_spec : {M : Type 1} → statement M
+count_trades_spec = tie.close (tie.spec
     invariant-loop
     decreases-loop
     (λ c. (omega arith, zero-add _))  -- loop-holds
-    (λ c. tally_none _ _ _ c.before.before.loop.invariant.1 (trades_used _ _ _ c.if1.true))  -- returns
-    (λ c κs. omega arith)  -- order-at-requires
+    (λ c. tally_none _ _ _ c.loop-i.invariant.1 (trades_used _ _ _ c.if-left-eq0.true))  -- returns-then-left-eq0
+    (λ c κs. omega arith)  -- order_at-o-requires
     (λ c κs. search rules)  -- meets-requires
     returns-2
-    (λ c κs. search rules)  -- smaller-requires
-    (λ c. omega arith)  -- sub-left
-    (λ c. omega arith)  -- add-i
+    (λ c κs. search rules)  -- smaller-size-requires
+    (λ c. omega arith)  -- overflow_sub-left
+    (λ c. omega arith)  -- overflow_add-i
     (λ c. omega arith)  -- loop-less
     loop-again
-    (λ c. tally_end (count_trades _ _) _ _ _ _ _ _ c.before.loop.invariant.1 c.loop-test.false (count_end _ _)))  -- returns-3
+    (λ c. tally_end (count_trades _ _) _ _ _ _ _ _ c.loop-i.invariant.1 c.loop-i-test.false (count_end _ _)))  -- returns-3

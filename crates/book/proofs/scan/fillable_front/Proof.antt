@@ -14,43 +14,43 @@ use Rattle.book.proofs.Scans.{test_failed, test_passed, fillable_on}
 use Rattle.book.proofs.scan.fillable_front.Statement.{statement}
 use Rattle.book.proofs.scan.fillable_front.Tie as tie
 
-abbrev invariant-loop : tie.invariant-loop
+abbrev invariant-loop : tie.invariant-loop-i
 invariant-loop area c count t condition lots₀ i₀ lots i =
     (i ≤ count) × ((lots ≤ 4294967296 * i) × (lots + fillable_front t (drop i (queue_in area c count)) ≡ fillable_front t (queue_in area c count)))
 
-abbrev decreases-loop : tie.decreases-loop
+abbrev decreases-loop : tie.decreases-loop-i
 decreases-loop area c count t condition lots₀ i₀ lots i = count - i
 
-returns : tie.Need-returns invariant-loop decreases-loop
+returns : tie.Need-returns-then-not-meets invariant-loop decreases-loop
 returns c =
     let read = c.before.before in
     let at = read.before.before in
-    tally_stop (fillable_front _) _ _ _ _ _ _ at.loop.invariant.1.1 _ read.before.loop-test.true read.order_at_lem.ensures
-    (λ os. front_unmet _ _ os (test_failed _ _ c.before.meets.ensures c.if1.true))
+    tally_stop (fillable_front _) _ _ _ _ _ _ at.loop-i.invariant.1.1 _ read.loop-i-test.true read.order_at-o.ensures
+    (λ os. front_unmet _ _ os (test_failed _ _ c.meets.ensures c.if-not-meets.true))
 
-loop-again : tie.Need-loop-preserved invariant-loop decreases-loop
+loop-again : tie.Need-loop-i-preserved invariant-loop decreases-loop
 loop-again c =
     let read = c.before.before.before in
     let at = read.before.before in (
       omega arith,
       (
         omega arith,
-        tally_on (fillable_front _) _ _ _ _ _ _ at.loop.invariant.1.1 _ read.before.loop-test.true
-            read.order_at_lem.ensures (fillable_front _) _ (fillable_on _ _ _ c.wide64.ensures (test_passed _ _ c.before.before.meets.ensures c.before.if1.false)),
+        tally_on (fillable_front _) _ _ _ _ _ _ at.loop-i.invariant.1.1 _ read.loop-i-test.true
+            read.order_at-o.ensures (fillable_front _) _ (fillable_on _ _ _ c.wide64-lots.ensures (test_passed _ _ c.meets.ensures c.if-not-meets.false)),
       ),
     )
 
-pub fillable-front-spec : {M : Type 1} → statement M
-fillable-front-spec = tie.close (tie.spec
+pub fillable_front_spec : {M : Type 1} → statement M
+fillable_front_spec = tie.close (tie.spec
     invariant-loop
     decreases-loop
     (λ c. (omega arith, (omega arith, zero-add _)))  -- loop-holds
-    (λ c κs. omega arith)  -- order-at-requires
+    (λ c κs. omega arith)  -- order_at-o-requires
     (λ c κs. search rules)  -- meets-requires
     returns
-    (λ c κs. search rules)  -- wide64-requires
-    (λ c. omega arith)  -- add-lots
-    (λ c. omega arith)  -- add-i
+    (λ c κs. search rules)  -- wide64-lots-requires
+    (λ c. omega arith)  -- overflow_add-lots
+    (λ c. omega arith)  -- overflow_add-i
     (λ c. omega arith)  -- loop-less
     loop-again
-    (λ c. tally_end (fillable_front _) _ _ _ _ _ _ c.before.loop.invariant.1.1 c.loop-test.false (front_end _)))  -- returns-2
+    (λ c. tally_end (fillable_front _) _ _ _ _ _ _ c.loop-i.invariant.1.1 c.loop-i-test.false (front_end _)))  -- returns-2

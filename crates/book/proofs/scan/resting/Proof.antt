@@ -13,48 +13,48 @@ use Rattle.book.proofs.Scans.{other_account, resting_nil, resting_on, resting_wi
 use Rattle.book.proofs.scan.resting.Statement.{statement}
 use Rattle.book.proofs.scan.resting.Tie as tie
 
-abbrev invariant-loop : tie.invariant-loop
+abbrev invariant-loop : tie.invariant-loop-i
 invariant-loop area c count account close lots₀ i₀ lots i =
     (i ≤ count) × ((lots ≤ 4294967296 * i) × (lots + resting close account (drop i (queue_in area c count)) ≡ resting close account (queue_in area c count)))
 
-abbrev decreases-loop : tie.decreases-loop
+abbrev decreases-loop : tie.decreases-loop-i
 decreases-loop area c count account close lots₀ i₀ lots i = count - i
 
-few : (c : tie.After-lots-of invariant-loop decreases-loop) → c.lots-of.result ≤ c.before.order_at_lem.result.lots
-few c = resting_within _ _ _ _ c.lots-of.ensures
+few : (c : tie.After-lots_of-lots invariant-loop decreases-loop) → c.lots_of-lots.result ≤ c.order_at-o.result.lots
+few c = resting_within _ _ _ _ c.lots_of-lots.ensures
 
-loop-again : tie.Need-loop-preserved invariant-loop decreases-loop
+loop-again : tie.Need-loop-i-preserved-then-word_at-account invariant-loop decreases-loop
 loop-again c =
     let read = c.before in
     let at = read.before.before.before in (
       omega arith,
       (
-        omega (arith, few c, read.order_at_lem.type-inv),
-        tally_on (resting _ _) _ _ _ _ _ _ at.before.loop.invariant.1.1 _ at.loop-test.true
-            read.order_at_lem.ensures (resting _ _) _ (resting_on _ _ _ _ c.lots-of.ensures),
+        omega (arith, few c, read.order_at-o.type-inv),
+        tally_on (resting _ _) _ _ _ _ _ _ at.loop-i.invariant.1.1 _ at.loop-i-test.true
+            read.order_at-o.ensures (resting _ _) _ (resting_on _ _ _ _ c.lots_of-lots.ensures),
       ),
     )
 
-loop-again-2 : tie.Need-loop-preserved-2 invariant-loop decreases-loop
+loop-again-2 : tie.Need-loop-i-preserved invariant-loop decreases-loop
 loop-again-2 c =
     let word = c.before in
     let at = word.before in
-    let so = tally_on (resting _ _) _ _ _ _ _ _ at.before.loop.invariant.1.1 _ at.loop-test.true refl (resting _ _) 0
-    (resting_on _ _ _ _ (other_account _ _ _ (λ e. c.if1.false (word.word_at.ensures ∙ e)))) in
+    let so = tally_on (resting _ _) _ _ _ _ _ _ at.loop-i.invariant.1.1 _ at.loop-i-test.true refl (resting _ _) 0
+    (resting_on _ _ _ _ (other_account _ _ _ (λ e. c.if-word_at-account.false (word.word_at.ensures ∙ e)))) in
     (omega arith, (omega arith, omega (arith, so)))
 
-pub resting-spec : {M : Type 1} → statement M
-resting-spec = tie.close (tie.spec
+pub resting_spec : {M : Type 1} → statement M
+resting_spec = tie.close (tie.spec
     invariant-loop
     decreases-loop
     (λ c. (omega arith, (omega arith, zero-add _)))  -- loop-holds
-    (λ c. omega arith)  -- add-i
-    (λ c κs. (omega arith, omega arith))  -- word-at-requires
-    (λ c κs. omega arith)  -- order-at-requires
-    (λ c κs. search rules)  -- lots-of-requires
-    (λ c. omega (arith, few c))  -- add-lots
+    (λ c. omega arith)  -- overflow_add-i
+    (λ c κs. (omega arith, omega arith))  -- word_at-requires
+    (λ c κs. omega arith)  -- order_at-o-requires
+    (λ c κs. search rules)  -- lots_of-lots-requires
+    (λ c. omega (arith, few c))  -- overflow_add-lots
     (λ c. omega arith)  -- loop-less
     loop-again
     (λ c. omega arith)  -- loop-less-2
     loop-again-2
-    (λ c. tally_end (resting _ _) _ _ _ _ _ _ c.before.loop.invariant.1.1 c.loop-test.false (resting_nil _ _)))  -- returns
+    (λ c. tally_end (resting _ _) _ _ _ _ _ _ c.loop-i.invariant.1.1 c.loop-i-test.false (resting_nil _ _)))  -- returns

@@ -8,46 +8,46 @@ use Rattle.book.proofs.side.side.Statement.{statement}
 use Rattle.book.proofs.side.side.Tie as tie
 
 -- back to the test `contract == 0`
-abbrev Past-contract : tie.Else5 → tie.Else2
+abbrev Past-contract : tie.Else-count-gt-MAX_RESTING → tie.Else-contract-eq0
 Past-contract c = c.before.before.before
 
 -- the area that was picked
-area-is : (c : tie.Joined1) → c.if1.area.now ≡ pick c.before.args.sell c.before.args.sells.now c.before.args.buys.now
-area-is c = ⊎_elim (λ w. rw (w.0.taken, w.1)) (λ w. rw (w.0.left, w.1)) c.if1.branch
+area-is : (c : tie.Joined-sell) → c.if-sell.area.now ≡ pick c.args.sell c.args.sells.now c.args.buys.now
+area-is c = ⊎_elim (λ w. rw (w.0.taken, w.1)) (λ w. rw (w.0.left, w.1)) c.if-sell.branch
 
-returns-4 : tie.Need-returns-4
-returns-4 c = too_many _ _ _ _ _ _ c.before.before.before.before.if2.false c.before.before.before.if3.false c.before.before.if4.false c.before.if5.true
+returns-4 : tie.Need-returns-then-count-gt-MAX_RESTING
+returns-4 c = too_many _ _ _ _ _ _ c.if2.false c.if3.false c.if4.false c.if5.true
 
-returns-5 : tie.Need-returns-5
+returns-5 : tie.Need-returns-then-e-area
 returns-5 c =
     let past-contract = Past-contract c.before.before in
-    too_short _ _ _ _ _ _ past-contract.if2.left c.before.before.before.before.if3.false c.before.before.before.if4.false
-    c.before.before.if5.false _ (area-is past-contract.before) c.before.if6.true
+    too_short _ _ _ _ _ _ past-contract.if-contract-eq0.false c.if3.false c.if4.false
+    c.if5.false _ (area-is past-contract.before) c.if6.true
 
-returns-6 : tie.Need-returns-6
+returns-6 : tie.Need-returns
 returns-6 c =
     let past-contract = Past-contract c.before.before in
-    whole_queue _ _ _ _ _ _ past-contract.if2.left c.before.before.before.before.if3.false c.before.before.before.if4.false
-    c.before.before.if5.false _ (area-is past-contract.before) c.before.if6.false
+    whole_queue _ _ _ _ _ _ past-contract.if-contract-eq0.false c.if-contract-contracts.false c.if-contract-gt-MAX_CONTRACTS.false
+    c.if-count-gt-MAX_RESTING.false _ (area-is past-contract.before) c.if-e-area.false
 
-pub side-spec : {M : Type 1} → statement M
-side-spec = tie.close (tie.spec
-    (λ c. search rules)  -- slice-aggregate-result
-    (λ c. no_contract_lem _ _ _ _ _ _ c.before.if2.true)  -- returns
-    (λ c. search rules)  -- slice-aggregate-result-2
-    (λ c. unlisted _ _ _ _ _ _ c.before.before.if2.false c.before.if3.true)  -- returns-2
-    (λ c. search rules)  -- slice-aggregate-result-3
-    (λ c. no_place _ _ _ _ _ _ c.before.before.before.if2.false c.before.before.if3.false c.before.if4.true)  -- returns-3
-    (λ c. search rules)  -- slice-aggregate-result-4
+pub side_spec : {M : Type 1} → statement M
+side_spec = tie.close (tie.spec
+    (λ c. search rules)  -- slice_bounds-result-end
+    (λ c. no_contract_lem _ _ _ _ _ _ c.if2.true)  -- returns-then-contract-eq0
+    (λ c. search rules)  -- slice_bounds-result-end-then-contract-contracts
+    (λ c. unlisted _ _ _ _ _ _ c.if2.false c.if3.true)  -- returns-then-contract-contracts
+    (λ c. search rules)  -- slice_bounds-result-end-then-contract-gt-MAX_CONTRACTS
+    (λ c. no_place _ _ _ _ _ _ c.if2.false c.if3.false c.if4.true)  -- returns-then-contract-gt-MAX_CONTRACTS
+    (λ c. search rules)  -- slice_bounds-result-end-then-count-gt-MAX_RESTING
     returns-4
-    (λ c. search rules)  -- sub-a
-    (λ c. search rules)  -- mul-a
-    (λ c. search rules)  -- mul-e
-    (λ c. search rules)  -- add-e
-    (λ c. search rules)  -- slice-aggregate-result-5
+    (λ c. search rules)  -- overflow_sub-a
+    (λ c. search rules)  -- overflow_mul-a
+    (λ c. search rules)  -- overflow_mul-e
+    (λ c. search rules)  -- overflow_add-e
+    (λ c. search rules)  -- slice_bounds-result-end-then-e-area
     returns-5
-    (λ c. search rules)  -- mul-result
-    (λ c. search rules)  -- sub-result
-    (λ c. search rules)  -- part-result-start
-    (λ c. search rules)  -- part-result-end
+    (λ c. search rules)  -- offset_bounds-area-a
+    (λ c. search rules)  -- slice_bounds-result-count
+    (λ c. search rules)  -- slice_bounds-result-start
+    (λ c. search rules)  -- slice_bounds-result-end-2
     returns-6)

@@ -5,33 +5,33 @@ use lib.Seq.{get_or-drop}
 use Rattle.book.proofs.trades.trade_at.Statement.{statement}
 use Rattle.book.proofs.trades.trade_at.Tie as tie
 
-pub trade-at-spec : {M : Type 1} → statement M
-trade-at-spec = tie.close (tie.spec
-    (λ c. search rules)  -- mul-at
-    (λ c. search rules)  -- mul-t4
-    (λ c. search rules)  -- shared-slice-read-t6
-    (λ c. search rules)  -- add-t7
-    (λ c. search rules)  -- mul-t8
-    (λ c. search rules)  -- shared-slice-read-t10
-    (λ c. search rules)  -- add-t11
-    (λ c. search rules)  -- mul-t12
-    (λ c. search rules)  -- shared-slice-read-t14
-    (λ c. search rules)  -- add-t15
-    (λ c. search rules)  -- mul-t16
-    (λ c. search rules)  -- shared-slice-read-t18
-    (λ c. search rules)  -- add-t19
-    (λ c. search rules)  -- mul-t20
-    (λ c. search rules)  -- shared-slice-read-t22
-    (λ c. search rules)  -- add-t23
-    (λ c. search rules)  -- mul-t24
-    (λ c. search rules)  -- shared-slice-read-t26
-    (λ c. search rules)  -- add-t27
-    (λ c. search rules)  -- mul-t28
-    (λ c. search rules)  -- shared-slice-read-t30
-    (λ c. search rules)  -- add-t31
-    (λ c. search rules)  -- mul-t32
-    (λ c. search rules)  -- shared-slice-read-t34
-    (λ c. search rules)  -- add-t35
-    (λ c. search rules)  -- mul-t36
-    (λ c. search rules)  -- shared-slice-read-t38
+pub trade_at_spec : {M : Type 1} → statement M
+trade_at_spec = tie.close (tie.spec
+    (λ c. search rules)  -- overflow_mul-at
+    (λ c. search rules)  -- offset_bounds-area-at
+    (λ c. search rules)  -- bounds-area-at
+    (λ c. search rules)  -- overflow_add-result
+    (λ c. search rules)  -- offset_bounds-area-at-2
+    (λ c. search rules)  -- bounds-area-at-2
+    (λ c. search rules)  -- overflow_add-result-2
+    (λ c. search rules)  -- offset_bounds-area-at-3
+    (λ c. search rules)  -- bounds-area-at-3
+    (λ c. search rules)  -- overflow_add-result-3
+    (λ c. search rules)  -- offset_bounds-area-at-4
+    (λ c. search rules)  -- bounds-area-at-4
+    (λ c. search rules)  -- overflow_add-result-4
+    (λ c. search rules)  -- offset_bounds-area-at-5
+    (λ c. search rules)  -- bounds-area-at-5
+    (λ c. search rules)  -- overflow_add-result-5
+    (λ c. search rules)  -- offset_bounds-area-at-6
+    (λ c. search rules)  -- bounds-area-at-6
+    (λ c. search rules)  -- overflow_add-result-6
+    (λ c. search rules)  -- offset_bounds-area-at-7
+    (λ c. search rules)  -- bounds-area-at-7
+    (λ c. search rules)  -- overflow_add-result-7
+    (λ c. search rules)  -- offset_bounds-area-at-8
+    (λ c. search rules)  -- bounds-area-at-8
+    (λ c. search rules)  -- overflow_add-result-8
+    (λ c. search rules)  -- offset_bounds-area-at-9
+    (λ c. search rules)  -- bounds-area-at-9
     (λ c. simp (get_or-drop, add-zero)))  -- returns
