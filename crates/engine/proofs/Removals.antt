@@ -62,7 +62,7 @@ module _ (c : Contract) (operator : Bool) where
 
   pub in_no_trading : c.phase ≡ no_trading → not operator ≡ removalRefused c operator
   unfolding removalRefused
-  in_no_trading e = sym (rw e (for_either operator refl refl))
+  in_no_trading e = sym (rw e (for_either _ operator refl refl))
 
   pub in_any_other : c.phase ≢ 1 → c.phase ≢ 2 → in_auction c ≡ false → true ≡ removalRefused c operator
   unfolding removalRefused

@@ -52,7 +52,7 @@ use Rattle.refusals.proofs.Sides.{contract_is, contract_terms, held_low, opposit
 
 module _ (sell : Bool) (c : Contract) (mine others : List Order) where
   own_with : own sell (with_queues sell c mine others) ≡ mine
-  own_with = for_either sell refl refl
+  own_with = for_either _ sell refl refl
 
 -- ---- and each written where it lies
 

@@ -45,7 +45,7 @@ resting_now m w =
     let k = (sound m w).contents in
     record {
       opens = λ a c l h sell. (k.holding a c l h).opens sell;
-      closes = λ a c l h sell. for_either sell ((k.holding a c l h).closes false) ((k.holding a c l h).closes true);
+      closes = λ a c l h sell. for_either _ sell ((k.holding a c l h).closes false) ((k.holding a c l h).closes true);
     }
 
 -- .. and so in every memory that a run from one leaves

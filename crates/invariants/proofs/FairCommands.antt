@@ -104,7 +104,7 @@ module _ (x : Exchange) (k : Sound x) (contract phase : ℕ) (e : code_of x (Pha
 
   left_queues : (sell : Bool) → own sell (listing_at (exchange_matched x c phase (auction_of x c)) c) ≡ left_on sell (auction_of x c)
   unfolding listing_matched
-  left_queues sell = ap (own sell) left_listing ∙ (for_either sell refl refl)
+  left_queues sell = ap (own sell) left_listing ∙ (for_either _ sell refl refl)
 
   auction_held : AuctionHeld x c phase (step x (Phase contract phase))
   unfolding exchange_matched

@@ -51,8 +51,8 @@ holding_by_lem sell c mine others d accounts a l s k =
     record {
       startlong = l;
       startshort = s;
-      opens = λ side. for_either side k.buy_opens_lem k.sell_opens_lem;
-      closes = λ side. for_either side k.buy_closes_lem k.sell_closes_lem;
+      opens = λ side. for_either _ side k.buy_opens_lem k.sell_opens_lem;
+      closes = λ side. for_either _ side k.buy_closes_lem k.sell_closes_lem;
     }
 
 -- what holds of its own queue and of the other holds of the queues of both sides

@@ -180,7 +180,7 @@ module _ (a : ℕ) where
     unfolding exchange_matched listing_matched listing_at
     matched_fated phase =
         fated_in d (match_of x d).trades x _ (matched_in x d phase) (λ sell. rw (get_or-set_same x.listings d _ no_listing there)
-        (for_either sell met.0 met.1))
+        (for_either _ sell met.0 met.1))
 
   -- ---- a quote: the old one removed, the buy entered, the sell entered
 

@@ -199,8 +199,8 @@ module _ (x : Exchange) (k : WellFormed x) (c : ℕ) (there : c < length x.listi
         record {
           startlong = rw (ap (λ (h : Holding). h.startlong) s) q.startlong;
           startshort = rw (ap (λ (h : Holding). h.startshort) s) q.startshort;
-          opens = λ side. for_either side r.buy_opens_lem r.sell_opens_lem;
-          closes = λ side. for_either side r.buy_closes_lem r.sell_closes_lem;
+          opens = λ side. for_either _ side r.buy_opens_lem r.sell_opens_lem;
+          closes = λ side. for_either _ side r.buy_closes_lem r.sell_closes_lem;
         }
 
     trades_ok : TradesOk x c after (match_of x c).trades x.next x.nextstamp

@@ -70,7 +70,7 @@ module _ (x : Exchange) (w : WellFormed x) (q : Offered) (account_there : place_
 
   pub none_marked : (sell : Bool) → quotes account (own sell (listing_at (without_quote x q) place)) ≡ 0
   none_marked sell = rw gone_listing
-      (for_either sell (none_left account (listing_at x place).buys) (none_left account (listing_at x place).sells))
+      (for_either _ sell (none_left account (listing_at x place).buys) (none_left account (listing_at x place).sells))
 
   -- ---- the buy, which passes its tests
 

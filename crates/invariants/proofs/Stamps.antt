@@ -204,7 +204,7 @@ settled_stamped x =
     record {
       next = refl;
       orders = λ c sell. rw (settled_none (length x.listings) (settled_listing x) c sell (λ i.
-          (for_either sell refl refl))) refl;
+          (for_either _ sell refl refl))) refl;
     }
 
 -- where each order enters with one number for both, it stays so
