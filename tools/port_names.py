@@ -56,7 +56,7 @@ def files(root, kinds=(".antt", ".rt")):
 
 
 def is_function_proof(path):
-    return os.path.basename(path) in ("Proof.antt", "Answers.antt", "Invariants.antt")
+    return "/proofs/" in path and os.path.basename(path) in ("Proof.antt", "Answers.antt", "Invariants.antt")
 
 
 def code_of(text):
@@ -141,7 +141,7 @@ def of_libraries(root):
     for p in files(root):
         for path, items in USE.findall(open(p, encoding="utf-8").read()):
             parts = path.split(".")
-            if not (parts[0] == "Rattle" and len(parts) > 1 and parts[1] in own):
+            if len(parts) > 1 and not (parts[0] == "Rattle" and parts[1] in own):
                 kept |= {it.strip().split(" as ")[0] for it in items.split(",")}
     return kept
 

@@ -8,7 +8,7 @@ use Rattle.laws.specs.Ring.{*ℤ-add}
 use Rattle.laws.specs.Sums.{sum_to, sum_to_ext, sum_to_add}
 use Rattle.laws.specs.Tabulate.{get_d_tabulate}
 use Rattle.laws.specs.Lists.{kept_at}
-use Rattle.rules.specs.Answers.{listingOf}
+use Rattle.rules.specs.Answers.{listing_of}
 use Rattle.rules.specs.Auction.{match_of}
 use Rattle.rules.specs.Exchange.{Exchange, Listing, no_account, no_holding, no_listing, listing_at, account_at, holding_at, place_of}
 use Rattle.rules.specs.Kinds.{Move, pays_in, pays_out, makes, settles, nothing}
@@ -112,7 +112,7 @@ traded_moves x c l ts next nextstamp r m = record {
 }
 
 pub entered_moves : (x : Exchange) (o : NewOrder) (e : Entered) (next : ℕ) → Makes x (makes e.trades) (exchange_after x o e next)
-unfolding exchange_after listing_after listingOf
+unfolding exchange_after listing_after listing_of
 entered_moves x o e next = traded_moves x (place_of o.contract) _ e.trades next (x.nextstamp + 1) refl refl
 
 pub matched_moves : (x : Exchange) (c phase : ℕ) → Makes x (makes (match_of x c).trades) (exchange_matched x c phase (match_of x c))

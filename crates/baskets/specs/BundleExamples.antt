@@ -6,7 +6,7 @@ use Rattle.laws.specs.Sums.{sum_of}
 use Rattle.laws.specs.Tabulate.{tabulate}
 use Rattle.areas.specs.Lists.{over, padded}
 use Rattle.areas.specs.Records.{decode, encode, records, store}
-use Rattle.rules.specs.Answers.{amountRefused, depositRefusals, first_of, liftsTooHigh, settleRefusals}
+use Rattle.rules.specs.Answers.{amount_refused, deposit_refusals, first_of, lifts_too_high, settle_refusals}
 use Rattle.rules.specs.Bounds.{on_tick, pre_open, terms_in_range, tick_multiple}
 use Rattle.rules.specs.Condition3.{balance_in, run}
 use Rattle.rules.specs.Examples.{Row, ◌gives◌, all_right, up}
@@ -103,5 +103,5 @@ table =
     ∷ []
 
 pub bundle_examples : all_right table ≡ true
-unfolding all_right table state m short commands code word balance up absent account_at after_calls all all_listed all_of amountRefused answers_to balance_in_range book_trades bundle_code carried code_of commands_read contract_in_range counters_in_range counts_in_range decide decode depositRefusals deposited encode exchange_of first_of has_room held_in_range holding_at holding_in_range holdings_in_range kind_of liftsTooHigh listed listing_at listing_in listing_quoted lots_where mark_in_range never_below_zero on_tick orders_in_range over padded paid played_of put put_accounts put_queue put_queues put_state put_trades queue_in queue_quoted queues_sorted quotes ranges_kept recorded_trades records replays respond resting resting_in_range run same_holdings same_lots settleRefusals sorted start_of_day step_in store sum_of tabulate terms_in_range tick_multiple trade_in_range uncrossed used_once well_formed_contents well_formed_memory
+unfolding all_right table state m short commands code word balance up absent account_at after_calls all all_listed all_of amount_refused answers_to balance_in_range book_trades bundle_code carried code_of commands_read contract_in_range counters_in_range counts_in_range decide decode deposit_refusals deposited encode exchange_of first_of has_room held_in_range holding_at holding_in_range holdings_in_range kind_of lifts_too_high listed listing_at listing_in listing_quoted lots_where mark_in_range never_below_zero on_tick orders_in_range over padded paid played_of put put_accounts put_queue put_queues put_state put_trades queue_in queue_quoted queues_sorted quotes ranges_kept recorded_trades records replays respond resting resting_in_range run same_holdings same_lots settle_refusals sorted start_of_day step_in store sum_of tabulate terms_in_range tick_multiple trade_in_range uncrossed used_once well_formed_contents well_formed_memory
 bundle_examples = refl

@@ -47,7 +47,7 @@ module _ (s : Sweeps) {t : Taker} (same : t ≡ taker_of s) (b₀ : Book) (n : �
         → book_of owns' r.own opposites' r.opposite area' r.made r.last r.accounts
         ≡ after s (book_of owns own opposites opposite area made last accounts) e
     after_it i =
-        rw (i.own_queue, i.own_count, i.opposite_queue, i.opposite_count, i.trades, i.made, i.last, i.accounts)
+        rw (i.own_queue_lem, i.own_count, i.opposite_queue_lem, i.opposite_count, i.trades, i.made, i.last, i.accounts)
 
     pub once_more : EntryIs (enter t s.lots s.price s.day last (queue_in owns t.contract own) (queue_in opposites t.contract opposite)) t.contract owns own opposites opposite area made last accounts r owns' opposites' area'
         → book_of owns' r.own opposites' r.opposite area' r.made r.last r.accounts ≡ entered s b₀ (n + 1)
@@ -72,7 +72,7 @@ module _ (s : Sweeps) {t : Taker} (same : t ≡ taker_of s) (b₀ : Book) (n : �
         last = ap (λ (b : Book). b.last) e;
         long = rw (ep, ec) (ap (λ (b : Book). (holding_at b.accounts s.probe s.contract).long) e);
         short = rw (ep, ec) (ap (λ (b : Book). (holding_at b.accounts s.probe s.contract).short) e);
-        own_queue = ap (λ (b : Book). b.owns) e;
-        opposite_queue = ap (λ (b : Book). b.opposites) e;
+        own_queue_lem = ap (λ (b : Book). b.owns) e;
+        opposite_queue_lem = ap (λ (b : Book). b.opposites) e;
         trades = ap (λ (b : Book). b.area) e;
       }

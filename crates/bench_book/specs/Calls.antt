@@ -105,8 +105,8 @@ pub record SweptOf (s : Sweeps) (b : Book) (r : Swept) (owns opposites area : Li
   pub last : r.last ≡ b.last
   pub long : r.long ≡ (holding_at b.accounts s.probe s.contract).long
   pub short : r.short ≡ (holding_at b.accounts s.probe s.contract).short
-  pub own_queue : owns ≡ b.owns
-  pub opposite_queue : opposites ≡ b.opposites
+  pub own_queue_lem : owns ≡ b.owns
+  pub opposite_queue_lem : opposites ≡ b.opposites
   pub trades : area ≡ b.area
 
 abbrev pub SweptIs : Sweeps → ℕ → List ℕ → List ℕ → List ℕ → Swept → List ℕ → List ℕ → List ℕ → Type 0

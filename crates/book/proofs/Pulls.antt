@@ -23,7 +23,7 @@ use Rattle.book.proofs.Queues.{put_over}
 
 module _ (quote : Bool) (account : ℕ) (o : Order) where
   pub pulled_another : (o.account ≡ account → ⊥) → false ≡ is_pulled quote account o
-  pulled_another h = for_either _ quote (sym (ne_eqb o.account account h)) (sym (rw (ne_eqb o.account account h)))
+  pulled_another h = for_either (λ q. false ≡ is_pulled q account o) (sym (ne_eqb o.account account h)) (sym (rw (ne_eqb o.account account h))) quote
 
   pub pulled_quote : o.account ≡ account → quote ≡ true → eqb o.quote 1 ≡ is_pulled quote account o
   pulled_quote h t = sym (ap (λ (b : Bool). is_pulled b account o) t ∙ rw (eq-eqb o.account account h))

@@ -13,7 +13,7 @@ use Rattle.laws.specs.Choice.{pick}
 use Rattle.areas.specs.Lists.{remove_at}
 use Rattle.areas.proofs.Lists.{length_remove_at}
 use Rattle.rules.specs.Answers as rules
-use Rattle.rules.specs.Answers.{Refusal, cancelRefusals, dayLimitOrder, first_of, listingOf, namedRefusals, noSuchOrder, notContinuous, numbered, ofAnother, ownerRefusals, pullRefusals, restingOrder}
+use Rattle.rules.specs.Answers.{Refusal, cancel_refusals, day_limit_order, first_of, listing_of, named_refusals, no_such_order, not_continuous, numbered, of_another, owner_refusals, pull_refusals, resting_order}
 use Rattle.rules.specs.Bounds.{max_resting, numbers_end, max_lots, max_contracts, terms_in_range}
 use Rattle.rules.specs.Change.{Asked, arriving, asked, change_refusals, changed, gone, is_sell, lessened, listing_lessened, loses, loses_place, new_fields_refusals, old_order, place_kept, place_lost, reentered, reentry_refusals, unchanged}
 use Rattle.rules.specs.Exchange.{Exchange, listing_named, no_account, no_contract, no_order, own, place_of}
@@ -92,13 +92,13 @@ module _ {s : State} {buys sells trades : List ℕ} (w : WellFormedState s buys 
   -- ---- the list in its parts
 
   abbrev resting : List Order
-  resting = restingOrder (listing_named x k.contract) number
+  resting = resting_order (listing_named x k.contract) number
 
   abbrev stated : List Refusal
-  stated = namedRefusals x notContinuous account contract
+  stated = named_refusals x not_continuous account contract
 
   abbrev order_part : List Refusal
-  order_part = ownerRefusals (place_of account) resting ++ new_fields_refusals (listing_named x k.contract).contract lots price
+  order_part = owner_refusals (place_of account) resting ++ new_fields_refusals (listing_named x k.contract).contract lots price
 
   abbrev lost_part : List Refusal
   lost_part = pick (loses_place x k) (reentry_refusals (gone x k) number (arriving x k)) []
@@ -124,7 +124,7 @@ module _ {s : State} {buys sells trades : List ℕ} (w : WellFormedState s buys 
     listing_is = listing_at_lem m f c (contract_here w account contract (failed stated (omega arith) st))
 
     resting_is : resting ≡ numbered number (bought ++ sold)
-    unfolding restingOrder listing_in
+    unfolding resting_order listing_in
     resting_is = rw listing_is
 
     -- ---- 14, 15, 5 and 7, of the order found
@@ -171,9 +171,9 @@ module _ {s : State} {buys sells trades : List ℕ} (w : WellFormedState s buys 
     found : r.found ≡ true
     found = by_found r.found its.0
       where
-        by_found : (b : Bool) → noSuchOrder (pick b (r.order ∷ []) []) ≡ false → b ≡ true
+        by_found : (b : Bool) → no_such_order (pick b (r.order ∷ []) []) ≡ false → b ≡ true
         by_found true e = refl
-        by_found false e = absurd (true≢false (unfold noSuchOrder in e))
+        by_found false e = absurd (true≢false (unfold no_such_order in e))
 
     one_found : numbered number (bought ++ sold) ≡ r.order ∷ []
     one_found = g.resting.order ∙ rw found refl
@@ -192,7 +192,7 @@ module _ {s : State} {buys sells trades : List ℕ} (w : WellFormedState s buys 
     unfolding is_sell listing_in
     sell_is = rw (listing_is st') (sym (g.resting.sell found))
 
-    arriving_is : arriving x k ≡ dayLimitOrder account contract r.sell (eqb r.order.close 1) lots price
+    arriving_is : arriving x k ≡ day_limit_order account contract r.sell (eqb r.order.close 1) lots price
     unfolding arriving
     arriving_is = rw (sell_is, old_is)
 
@@ -260,13 +260,13 @@ module _ {s : State} {buys sells trades : List ℕ} (w : WellFormedState s buys 
 
     -- it is the account's own
     another : not (eqb r.order.account (place_of account)) ≡ false
-    unfolding ofAnother
+    unfolding of_another
     another = rw found at its.1.0
 
     cancel_code : code_of x (Cancel account contract false number) ≡ 0
-    unfolding code_of kind_of cancelRefusals pullRefusals first_of ofAnother noSuchOrder
+    unfolding code_of kind_of cancel_refusals pull_refusals first_of of_another no_such_order
     cancel_code =
-        sym (first_there (pullRefusals x account contract false) (ownerRefusals (place_of account) resting) (omega arith) (pulls w account contract named))
+        sym (first_there (pull_refusals x account contract false) (owner_refusals (place_of account) resting) (omega arith) (pulls w account contract named))
         ∙ rw (one_resting, another) refl
 
     gone_is : (step_in m (Cancel account contract false number)).memory ≡ put m (gone x k)
@@ -480,7 +480,7 @@ module _ {s : State} {buys sells trades : List ℕ} (w : WellFormedState s buys 
         gone_formed = record { declared = gone_declared; formed = rw taken.memory (step_in_keeps m w.formed (Cancel account contract false number)) }
 
         -- the order as it arrives again
-        module _ {o : NewOrder} (eo : o ≡ dayLimitOrder account contract r.sell (eqb r.order.close 1) lots price) where
+        module _ {o : NewOrder} (eo : o ≡ day_limit_order account contract r.sell (eqb r.order.close 1) lots price) where
           its_order : o ≡ arriving x k
           its_order = eo ∙ sym arriving_is
 
@@ -587,7 +587,7 @@ module _ {s : State} {buys sells trades : List ℕ} (w : WellFormedState s buys 
               entered_counted : Counted (exchange_after (exchange_of m') o (entered_of (exchange_of m') number 0 o) t.next)
               entered_counted = subst Counted (sym same_after) after_counted
 
-              entered_few : (side : Bool) → length (own side (listing_after (listingOf (exchange_of m') o) o.sell (entered_of (exchange_of m') number 0 o))) ≤ max_resting
+              entered_few : (side : Bool) → length (own side (listing_after (listing_of (exchange_of m') o) o.sell (entered_of (exchange_of m') number 0 o))) ≤ max_resting
               unfolding exchange_after
               entered_few side =
                   few_after m' (formed gone_formed) (place_of o.contract) _ _ t.next ((exchange_of m').nextstamp + 1) gone_present.contract entered_keeps entered_counted side
@@ -596,7 +596,7 @@ module _ {s : State} {buys sells trades : List ℕ} (w : WellFormedState s buys 
               unfolding exchange_of
               stamp_left = leb-false _ _ reentry.1.1.0
 
-              trades_room : rules.tradesRefused (exchange_of m') number o ≡ false
+              trades_room : rules.trades_refused (exchange_of m') number o ≡ false
               trades_room = reentry.1.1.1.0
 
               pub lost_enterable : Enterable t buys' sells' trades o number 0 t.next

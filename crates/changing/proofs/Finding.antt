@@ -11,7 +11,7 @@ use lib.ListN.{length, get_or, set, drop}
 use Rattle.laws.specs.Choice.{pick}
 use Rattle.areas.specs.Lists.{insert_at, remove_at}
 use Rattle.areas.proofs.Lists.{length_remove_at}
-use Rattle.rules.specs.Answers.{first_of, noSuchOrder, numbered, ofAnother, ownerRefusals}
+use Rattle.rules.specs.Answers.{first_of, no_such_order, numbered, of_another, owner_refusals}
 use Rattle.rules.specs.Bounds.{allowed_today, max_lots}
 use Rattle.rules.specs.Change.{lessened, new_fields_refusals, unmarked}
 use Rattle.rules.specs.Exchange.{no_order}
@@ -39,7 +39,7 @@ module _ (number : ℕ) (buys sells : List ℕ) (c buycount sellcount : ℕ) whe
   module _ {bid : ℕ} (eb : bid ≡ index_of number bought) where
     pub among_buys : {o : Order} → bid < buycount → o ≡ order_from (drop (first_word c bid) buys)
         → RestingIs number bought sold (record { order = o; place = bid; found = true; sell = false })
-    unfolding noSuchOrder
+    unfolding no_such_order
     among_buys {o} h eo =
         let l : index_of number bought < length bought = rw (← eb, length_queue buys c buycount) h in
         let is : get_or bought (index_of number bought) no_order ≡ o = rw (← eb) (order_at_lem buys c buycount bid h ∙ sym eo) in
@@ -56,7 +56,7 @@ module _ (number : ℕ) (buys sells : List ℕ) (c buycount sellcount : ℕ) whe
     module _ (past : buycount ≤ bid) {offer : ℕ} (es : offer ≡ index_of number sold) where
       pub among_sells : {o : Order} → offer < sellcount → o ≡ order_from (drop (first_word c offer) sells)
           → RestingIs number bought sold (record { order = o; place = offer; found = true; sell = true })
-      unfolding noSuchOrder
+      unfolding no_such_order
       among_sells {o} h eo =
           let l : index_of number sold < length sold = rw (← es, length_queue sells c sellcount) h in
           let is : get_or sold (index_of number sold) no_order ≡ o = rw (← es) (order_at_lem sells c sellcount offer h ∙ sym eo) in
@@ -70,7 +70,7 @@ module _ (number : ℕ) (buys sells : List ℕ) (c buycount sellcount : ℕ) whe
           }
 
       pub nowhere : sellcount ≤ offer → (o : Order) (place : ℕ) (sell : Bool) → RestingIs number bought sold (record { order = o; place = place; found = false; sell = sell })
-      unfolding noSuchOrder
+      unfolding no_such_order
       nowhere h o place sell =
           let none : numbered number (bought ++ sold) ≡ [] =
           numbered_append_none number bought sold (missing past)
@@ -84,18 +84,18 @@ module _ (number : ℕ) (buys sells : List ℕ) (c buycount sellcount : ℕ) whe
 
 -- 14, 15, 5 and 7 as the code tries them: `found` and `order` are the order found
 pub resting_tests : (found : Bool) (order : Order) (terms : Contract) (account lots price : ℕ) →
-    first_of (ownerRefusals account (pick found (order ∷ []) []) ++ new_fields_refusals terms lots price)
+    first_of (owner_refusals account (pick found (order ∷ []) []) ++ new_fields_refusals terms lots price)
     ≡ pick (not found) 14
     (pick (not (eqb order.account account)) 15
     (pick (ltb max_lots lots) 5
     (pick (not (eqb lots 0) && not (allowed_today terms price)) 7 0)))
-unfolding first_of noSuchOrder ofAnother
+unfolding first_of no_such_order of_another
 resting_tests true order terms account lots price = refl
 resting_tests false order terms account lots price = refl
 
 -- the other way round: where no order has the number, the search ends past the last
-pub missing_of : (number : ℕ) (os : List Order) → noSuchOrder (numbered number os) ≡ true → index_of number os ≡ length os
-unfolding noSuchOrder
+pub missing_of : (number : ℕ) (os : List Order) → no_such_order (numbered number os) ≡ true → index_of number os ≡ length os
+unfolding no_such_order
 missing_of number os h =
     ⊎_elim (λ e. e) (λ l. absurd (false≢true (rw (numbered_found number os l) at h))) (eq-or-lt_of_le (first_within (has_number number) os))
 

@@ -3,7 +3,7 @@
 use Rattle.std.specs.Prelude.{Bool, true, List, [], ◌∷◌, ◌++◌, ◌≡◌, ℕ, ◌-◌, ◌<◌, length, get_or, set}
 use Rattle.laws.specs.Choice.{pick}
 use Rattle.areas.specs.Lists.{insert_at, remove_at}
-use Rattle.rules.specs.Answers.{Refusal, first_of, namedRefusals, noSuchOrder, notContinuous, numbered, ownerRefusals}
+use Rattle.rules.specs.Answers.{Refusal, first_of, named_refusals, no_such_order, not_continuous, numbered, owner_refusals}
 use Rattle.rules.specs.Change.{loses, new_fields_refusals, unmarked}
 use Rattle.rules.specs.Exchange.{no_account, no_contract, no_order, place_of}
 use Rattle.rules.specs.Matching.{with_lots}
@@ -25,17 +25,17 @@ found_in r = pick r.found (r.order ∷ []) []
 -- the order with a number among a contract's, its side, and its place there
 pub record RestingIs (number : ℕ) (buys sells : List Order) (r : Resting) : Type 0 where
   pub order : numbered number (buys ++ sells) ≡ found_in r
-  pub sell : r.found ≡ true → r.sell ≡ noSuchOrder (numbered number buys)
+  pub sell : r.found ≡ true → r.sell ≡ no_such_order (numbered number buys)
   pub place : r.found ≡ true → r.place ≡ index_of number (pick r.sell sells buys)
   pub within : r.found ≡ true → r.place < length (pick r.sell sells buys)
 
 -- 14, 15, 5 and 7, of the order found; `account` is the account's place
 abbrev pub resting_refusals : Contract → ℕ → Resting → ℕ → ℕ → List Refusal
-resting_refusals terms account r lots price = ownerRefusals account (found_in r) ++ new_fields_refusals terms lots price
+resting_refusals terms account r lots price = owner_refusals account (found_in r) ++ new_fields_refusals terms lots price
 
 -- the order found, and a change that is refused neither for its account and contract nor for these
 pub record Changeable (s : State) (buys sells trades : List ℕ) (account contract number lots price : ℕ) (r : Resting) : Type 0 where
-  pub state : first_of (namedRefusals (exchange_of (memory s buys sells trades)) notContinuous account contract) ≡ 0
+  pub state : first_of (named_refusals (exchange_of (memory s buys sells trades)) not_continuous account contract) ≡ 0
   pub resting : RestingIs number (queue_in buys (place_of contract) (get_or s.buycounts (place_of contract) 0)) (queue_in sells (place_of contract) (get_or s.sellcounts (place_of contract) 0)) r
   pub order : first_of (resting_refusals (get_or s.contracts (place_of contract) no_contract) (place_of account) r lots price) ≡ 0
 

@@ -118,7 +118,7 @@ fn loses_place(order: Order, lots: u32, price: u32) -> bool
 
 // The order as it arrives again, to open or close as before.
 fn arriving(asked: Asked, r: Resting) -> NewOrder
-    ensures { result ≡ answer.dayLimitOrder asked.account asked.contract r.sell (eqb r.order.close 1) asked.lots asked.price }
+    ensures { result ≡ answer.day_limit_order asked.account asked.contract r.sell (eqb r.order.close 1) asked.lots asked.price }
 {
     let order = r.order;
     let close = order.close == 1;

@@ -7,7 +7,7 @@ use Prim.Native.Nat.{ℕ, ◌<◌, ◌≤◌}
 use native.Mathlib.Omega.{arith}
 use lib.ListN.{get_or}
 use Rattle.laws.specs.Choice.{pick}
-use Rattle.rules.specs.Answers.{Refusal, ◌when◌, absentRefusals, first_of, namedRefusals}
+use Rattle.rules.specs.Answers.{Refusal, ◌when◌, absent_refusals, first_of, named_refusals}
 use Rattle.rules.specs.Bounds.{max_accounts}
 use Rattle.rules.specs.Exchange.{absent, is_absent, listing_at, no_contract, place_of}
 use Rattle.rules.specs.Memory.{Declared, Memory, exchange_of, listing_in, memory}
@@ -34,7 +34,7 @@ module _ {s : State} (d : Declared s) (few : s.accountcount ≤ max_accounts) (b
 
   module _ (rest : List Refusal) where
     abbrev code : ℕ
-    code = first_of (absentRefusals (exchange_of m) account contract ++ rest)
+    code = first_of (absent_refusals (exchange_of m) account contract ++ rest)
 
     code_is : code ≡ pick (is_absent account s.accountcount) 2 (pick (is_absent contract s.contractcount) 3 (first_of rest))
     unfolding first_of
@@ -54,7 +54,7 @@ module _ {s : State} (d : Declared s) (few : s.accountcount ≤ max_accounts) (b
     pub one_absent : {told : ℕ} → AbsentIs s.accountcount s.contractcount account contract told → (told ≡ 0 → ⊥) → told ≡ code
     one_absent is some =
         let e = is.first s refl refl d buys sells trades in
-        e ∙ first_here (absentRefusals (exchange_of m) account contract) rest (λ z. some (e ∙ z))
+        e ∙ first_here (absent_refusals (exchange_of m) account contract) rest (λ z. some (e ∙ z))
 
 -- the promise of a call that tests them, which has the counts alone
 module _ {accounts contracts : ℕ} (few : accounts ≤ max_accounts) (account contract : ℕ) where
@@ -96,7 +96,7 @@ module _ {s : State} (d : Declared s) (few : s.accountcount ≤ max_accounts) (b
 
   module _ (rest : List Refusal) (a : is_absent account s.accountcount ≡ false) (c : is_absent contract s.contractcount ≡ false) where
     abbrev named : ℕ
-    named = first_of (namedRefusals (exchange_of lying) forbids account contract ++ rest)
+    named = first_of (named_refusals (exchange_of lying) forbids account contract ++ rest)
 
     named_is : named ≡ pick (forbids (listing_at (exchange_of lying) (place_of contract)).contract) 4 (first_of rest)
     unfolding first_of
@@ -113,7 +113,7 @@ module _ {s : State} (d : Declared s) (few : s.accountcount ≤ max_accounts) (b
     allowed e = named_is ∙ rw (terms_is, e) refl
 
   -- what code 0 of them says
-  module _ (passed : Failed (namedRefusals (exchange_of lying) forbids account contract)) where
+  module _ (passed : Failed (named_refusals (exchange_of lying) forbids account contract)) where
     pub account_there : (1 ≤ account) × (place_of account < s.accountcount)
     account_there = place_below account s.accountcount (sym (no_account_lem d few buys sells trades account contract) ∙ passed.0)
 

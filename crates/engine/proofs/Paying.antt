@@ -12,7 +12,7 @@ use lib.Signed.{lt_z}
 use Rattle.laws.specs.Bound.{Within}
 use Rattle.laws.specs.Choice.{both_true, pick}
 use Rattle.rules.specs.Kinds.{code_of, kind_of}
-use Rattle.rules.specs.Answers.{amountRefused, depositRefusals, first_of, leavesTooLittle, liftsTooHigh, withdrawRefusals}
+use Rattle.rules.specs.Answers.{amount_refused, deposit_refusals, first_of, leaves_too_little, lifts_too_high, withdraw_refusals}
 use Rattle.rules.specs.Bounds.{within, max_accounts, max_amount, balance_most}
 use Rattle.rules.specs.Exchange.{account_at, no_account, is_absent}
 use Rattle.rules.specs.Margin.{charged}
@@ -35,8 +35,8 @@ use Rattle.engine.proofs.Puts.{put_accounts_lem}
 use Rattle.engine.proofs.Tests.{place_below}
 
 -- an amount that is not refused
-pub amount_high : (amount : ℕ) → amountRefused amount ≡ false → amount ≤ max_amount
-unfolding amountRefused
+pub amount_high : (amount : ℕ) → amount_refused amount ≡ false → amount ≤ max_amount
+unfolding amount_refused
 amount_high amount e = leb-true amount max_amount (both_true (leb 1 amount) (leb amount max_amount) (not-false (within 1 max_amount amount) e)).1
 
 module _ {s : State} {buys sells trades : List ℕ} (w : WellFormedState s buys sells trades) (account : ℕ) where
@@ -96,8 +96,8 @@ module _ {s : State} {buys sells trades : List ℕ} (w : WellFormedState s buys 
     abbrev DepositIs : Decision → Type 0
     DepositIs d = DecisionIs m (Deposit account amount) d buys sells trades
 
-    deposit_code : code_of (exchange_of m) (Deposit account amount) ≡ pick (is_absent account s.accountcount) 2 (pick (amountRefused amount || liftsTooHigh (exchange_of m) account amount) 16 0)
-    unfolding code_of kind_of depositRefusals first_of
+    deposit_code : code_of (exchange_of m) (Deposit account amount) ≡ pick (is_absent account s.accountcount) 2 (pick (amount_refused amount || lifts_too_high (exchange_of m) account amount) 16 0)
+    unfolding code_of kind_of deposit_refusals first_of
     deposit_code = rw (no_account_lem m f account)
 
     deposit_refused : (code : ℕ) {d : Decision} → 0 < code → code_of (exchange_of m) (Deposit account amount) ≡ code → d ≡ refused_by code → DepositIs d
@@ -106,15 +106,15 @@ module _ {s : State} {buys sells trades : List ℕ} (w : WellFormedState s buys 
     pub deposit_absent : {d : Decision} → is_absent account s.accountcount ≡ true → d ≡ refused_by 2 → DepositIs d
     deposit_absent e = deposit_refused 2 (omega arith) (rw (deposit_code, e))
 
-    pub deposit_amount : {d : Decision} → is_absent account s.accountcount ≡ false → amountRefused amount ≡ true → d ≡ refused_by 16 → DepositIs d
+    pub deposit_amount : {d : Decision} → is_absent account s.accountcount ≡ false → amount_refused amount ≡ true → d ≡ refused_by 16 → DepositIs d
     deposit_amount present a = deposit_refused 16 (omega arith) (rw (deposit_code, present, a))
 
-    module _ (present : is_absent account s.accountcount ≡ false) {who : Account} (held : HeldBy s account who) (right : amountRefused amount ≡ false) where
+    module _ (present : is_absent account s.accountcount ≡ false) {who : Account} (held : HeldBy s account who) (right : amount_refused amount ≡ false) where
       abbrev lifted : ℤ
       lifted = who.balance +ℤ pos amount
 
-      lifts_is : liftsTooHigh (exchange_of m) account amount ≡ lt_z (pos (10 ^ 18)) lifted
-      unfolding liftsTooHigh
+      lifts_is : lifts_too_high (exchange_of m) account amount ≡ lt_z (pos (10 ^ 18)) lifted
+      unfolding lifts_too_high
       lifts_is = rw (balance_is present held)
 
       -- the test as the code makes it, of the balance as it is stored
@@ -144,8 +144,8 @@ module _ {s : State} {buys sells trades : List ℕ} (w : WellFormedState s buys 
     WithdrawIs d = DecisionIs m (Withdraw account amount) d buys sells trades
 
     withdraw_code : code_of (exchange_of m) (Withdraw account amount)
-        ≡ pick (is_absent account s.accountcount) 2 (pick (amountRefused amount) 16 (pick (leavesTooLittle (exchange_of m) account amount) 9 0))
-    unfolding code_of kind_of withdrawRefusals first_of
+        ≡ pick (is_absent account s.accountcount) 2 (pick (amount_refused amount) 16 (pick (leaves_too_little (exchange_of m) account amount) 9 0))
+    unfolding code_of kind_of withdraw_refusals first_of
     withdraw_code = rw (no_account_lem m f account)
 
     withdraw_refused : (code : ℕ) {d : Decision} → 0 < code → code_of (exchange_of m) (Withdraw account amount) ≡ code → d ≡ refused_by code → WithdrawIs d
@@ -154,16 +154,16 @@ module _ {s : State} {buys sells trades : List ℕ} (w : WellFormedState s buys 
     pub withdraw_absent : {d : Decision} → is_absent account s.accountcount ≡ true → d ≡ refused_by 2 → WithdrawIs d
     withdraw_absent e = withdraw_refused 2 (omega arith) (rw (withdraw_code, e))
 
-    pub withdraw_amount : {d : Decision} → is_absent account s.accountcount ≡ false → amountRefused amount ≡ true → d ≡ refused_by 16 → WithdrawIs d
+    pub withdraw_amount : {d : Decision} → is_absent account s.accountcount ≡ false → amount_refused amount ≡ true → d ≡ refused_by 16 → WithdrawIs d
     withdraw_amount present a = withdraw_refused 16 (omega arith) (rw (withdraw_code, present, a))
 
-    module _ (present : is_absent account s.accountcount ≡ false) {who : Account} (held : HeldBy s account who) (right : amountRefused amount ≡ false)
+    module _ (present : is_absent account s.accountcount ≡ false) {who : Account} (held : HeldBy s account who) (right : amount_refused amount ≡ false)
         {place : ℕ} (is : place ≡ account - 1) {total : ℕ} (c : ChargedBy present held is total who) where
       abbrev left : ℤ
       left = who.balance -ℤ pos amount
 
-      leaves_is : leavesTooLittle (exchange_of m) account amount ≡ lt_z left (pos total)
-      unfolding leavesTooLittle
+      leaves_is : leaves_too_little (exchange_of m) account amount ≡ lt_z left (pos total)
+      unfolding leaves_too_little
       leaves_is = rw (charged_is present held is c, balance_is present held)
 
       -- the test as the code makes it, of the difference as it is stored

@@ -15,7 +15,7 @@ use Rattle.laws.specs.Sums.{sum_of_bound}
 use Rattle.areas.specs.Lists.{remove_at}
 use Rattle.areas.proofs.Lists.{length_remove_at}
 use Rattle.rules.specs.Kinds.{code_of, done, kind_of}
-use Rattle.rules.specs.Answers.{Refusal, cancelRefusals, first_of, noSuchOrder, numbered, ofAnother, ownerRefusals, pullRefusals, removalRefused, restingOrder}
+use Rattle.rules.specs.Answers.{Refusal, cancel_refusals, first_of, no_such_order, numbered, of_another, owner_refusals, pull_refusals, removal_refused, resting_order}
 use Rattle.rules.specs.Bounds.{max_lots, in_auction, max_resting, max_contracts, continuous, no_trading}
 use Rattle.rules.specs.Exchange as exchange
 use Rattle.rules.specs.Exchange.{listing_at, lots_where, no_listing, no_order, is_absent, place_of}
@@ -52,20 +52,20 @@ use Rattle.engine.proofs.Tests.{place_below}
 -- ---- 4, by the contract's state
 
 module _ (c : Contract) (operator : Bool) where
-  pub in_continuous : c.phase ≡ continuous → false ≡ removalRefused c operator
-  unfolding removalRefused
+  pub in_continuous : c.phase ≡ continuous → false ≡ removal_refused c operator
+  unfolding removal_refused
   in_continuous e = sym (rw e)
 
-  pub in_auction_lem : in_auction c ≡ true → false ≡ removalRefused c operator
-  unfolding removalRefused
+  pub in_auction_lem : in_auction c ≡ true → false ≡ removal_refused c operator
+  unfolding removal_refused
   in_auction_lem e = sym (ap not (either_true (eqb c.phase continuous || eqb c.phase no_trading && operator) (in_auction c) e))
 
-  pub in_no_trading : c.phase ≡ no_trading → not operator ≡ removalRefused c operator
-  unfolding removalRefused
-  in_no_trading e = sym (rw e (for_either _ operator refl refl))
+  pub in_no_trading : c.phase ≡ no_trading → not operator ≡ removal_refused c operator
+  unfolding removal_refused
+  in_no_trading e = sym (rw e (for_either (λ b. not (eqb no_trading continuous || eqb no_trading no_trading && b || (in_auction (record c { phase = no_trading }))) ≡ not b) refl refl operator))
 
-  pub in_any_other : c.phase ≢ 1 → c.phase ≢ 2 → in_auction c ≡ false → true ≡ removalRefused c operator
-  unfolding removalRefused
+  pub in_any_other : c.phase ≢ 1 → c.phase ≢ 2 → in_auction c ≡ false → true ≡ removal_refused c operator
+  unfolding removal_refused
   in_any_other p q r = sym (rw (ne_eqb c.phase continuous p, ne_eqb c.phase no_trading q, r))
 
 -- ---- a cancel in one queue
@@ -75,7 +75,7 @@ module _ (account number : ℕ) (area : List ℕ) (c n : ℕ) where
   queue = queue_in area c n
 
   pub cancel_none : index_of number queue ≡ n → CancelledIs account number area c n (record { code = 14; count = n; lots = 0 }) area
-  unfolding first_of noSuchOrder
+  unfolding first_of no_such_order
   cancel_none h =
       record {
         code = rw (numbered_none number queue (h ∙ sym (length_queue area c n)));
@@ -95,7 +95,7 @@ module _ (account number : ℕ) (area : List ℕ) (c n : ℕ) where
     order_found = numbered_found number queue found_in ∙ ap (λ (o : Order). o ∷ []) (rw (← is) (order_at_lem area c n i found))
 
     pub cancel_another : ((order_from (drop (first_word c i) area)).account ≡ account → ⊥) → CancelledIs account number area c n (record { code = 15; count = n; lots = 0 }) area
-    unfolding first_of noSuchOrder ofAnother
+    unfolding first_of no_such_order of_another
     cancel_another h =
         record {
           code = rw (order_found, ne_eqb (order_from (drop (first_word c i) area)).account account h);
@@ -112,7 +112,7 @@ module _ (account number : ℕ) (area : List ℕ) (c n : ℕ) where
 
       pub cancel_done : {area' : List ℕ} → (order_from (drop (first_word c i) area)).account ≡ account → area' ≡ put_queue area c n (remove_at i queue)
           → CancelledIs account number area c n (record { code = 0; count = n - 1; lots = (order_from (drop (first_word c i) area)).lots }) area'
-      unfolding first_of noSuchOrder ofAnother
+      unfolding first_of no_such_order of_another
       cancel_done h e =
           record {
             code = rw (order_found, eq-eqb (order_from (drop (first_word c i) area)).account account h);
@@ -140,11 +140,11 @@ removed_none test area c n room h =
 index_cases : (n : ℕ) (os : List Order) → (index_of n os ≡ length os) ⊎ (index_of n os < length os)
 index_cases n os = eq-or-lt_of_le (first_within (has_number n) os)
 
-found_code : (a n : ℕ) (os : List Order) → first_of (ownerRefusals a (numbered n os)) ≢ 14 → index_of n os < length os
-unfolding first_of noSuchOrder
+found_code : (a n : ℕ) (os : List Order) → first_of (owner_refusals a (numbered n os)) ≢ 14 → index_of n os < length os
+unfolding first_of no_such_order
 found_code a n os h = ⊎_elim (λ e. absurd (h (rw (numbered_none n os e)))) (λ l. l) (index_cases n os)
 
-missing_code : (a n : ℕ) (os : List Order) → first_of (ownerRefusals a (numbered n os)) ≢ 0 → first_of (ownerRefusals a (numbered n os)) ≢ 15 → index_of n os ≡ length os
+missing_code : (a n : ℕ) (os : List Order) → first_of (owner_refusals a (numbered n os)) ≢ 0 → first_of (owner_refusals a (numbered n os)) ≢ 15 → index_of n os ≡ length os
 missing_code a n os h k =
     ⊎_elim (λ e. e) (λ l. absurd (either (get_or os (index_of n os) no_order) (rw (numbered_found n os l) at h) (rw (numbered_found n os l) at k))) (index_cases n os)
   where
@@ -152,8 +152,8 @@ missing_code a n os h k =
     code true h k = k refl
     code false h k = h refl
 
-    either : (o : Order) → first_of (ownerRefusals a (o ∷ [])) ≢ 0 → first_of (ownerRefusals a (o ∷ [])) ≢ 15 → ⊥
-    either o h k = unfold first_of noSuchOrder ofAnother in code (not (eqb o.account a)) h k
+    either : (o : Order) → first_of (owner_refusals a (o ∷ [])) ≢ 0 → first_of (owner_refusals a (o ∷ [])) ≢ 15 → ⊥
+    either o h k = unfold first_of no_such_order of_another in code (not (eqb o.account a)) h k
 
 -- "buys first"
 numbered_first : (n : ℕ) (os ps : List Order) → index_of n os < length os → numbered n (os ++ ps) ≡ numbered n os
@@ -194,12 +194,12 @@ module _ {s : State} {buys sells trades : List ℕ} (w : WellFormedState s buys 
   -- ---- the tests that both kinds make first
 
   abbrev shared : List Refusal
-  shared = pullRefusals (exchange_of m) account contract operator
+  shared = pull_refusals (exchange_of m) account contract operator
 
   cancel_code : (number : ℕ) → code_of (exchange_of m) (Cancel account contract operator number)
-      ≡ pick (eqb (first_of shared) 0) (first_of (ownerRefusals (place_of account) (restingOrder (listing_at (exchange_of m) (place_of contract)) number))) (first_of shared)
-  unfolding code_of kind_of cancelRefusals pullRefusals
-  cancel_code number = first_append shared (ownerRefusals (place_of account) (restingOrder (listing_at (exchange_of m) (place_of contract)) number)) (omega arith)
+      ≡ pick (eqb (first_of shared) 0) (first_of (owner_refusals (place_of account) (resting_order (listing_at (exchange_of m) (place_of contract)) number))) (first_of shared)
+  unfolding code_of kind_of cancel_refusals pull_refusals
+  cancel_code number = first_append shared (owner_refusals (place_of account) (resting_order (listing_at (exchange_of m) (place_of contract)) number)) (omega arith)
 
   pull_code : code_of (exchange_of m) (Pull account contract operator) ≡ first_of shared
   unfolding code_of kind_of
@@ -209,7 +209,7 @@ module _ {s : State} {buys sells trades : List ℕ} (w : WellFormedState s buys 
 
   module _ (none : first_of shared ≡ 0) where
     tests : (is_absent account s.accountcount ≡ false) × (is_absent contract s.contractcount ≡ false)
-    unfolding pullRefusals
+    unfolding pull_refusals
     tests =
         let t = failed shared (omega arith) none in
         (sym (no_account_lem m f account) ∙ t.0, sym (no_contract_lem m f contract) ∙ t.1.0)
@@ -316,8 +316,8 @@ module _ {s : State} {buys sells trades : List ℕ} (w : WellFormedState s buys 
         CancelIs d buys' sells' = DecisionIs m (Cancel account contract operator number) d buys' sells' trades
 
         -- the first of the two queues that has the order decides
-        cancel_is : code_of (exchange_of m) (Cancel account contract operator number) ≡ first_of (ownerRefusals (place_of account) (numbered number (orders false ++ orders true)))
-        unfolding restingOrder listing_in
+        cancel_is : code_of (exchange_of m) (Cancel account contract operator number) ≡ first_of (owner_refusals (place_of account) (numbered number (orders false ++ orders true)))
+        unfolding resting_order listing_in
         cancel_is = cancel_code number ∙ rw (none, listing_is)
 
         module _ {owner : ℕ} (mine : owner ≡ place_of account) {bid : Cancelled} {buys' : List ℕ} (among_buys : CancelledIs owner number buys place l.bought bid buys') where
@@ -328,7 +328,7 @@ module _ {s : State} {buys sells trades : List ℕ} (w : WellFormedState s buys 
           bid_code : bid.code ≢ 14 → code_of (exchange_of m) (Cancel account contract operator number) ≡ bid.code
           bid_code h =
               cancel_is
-              ∙ ap (λ (found : List Order). first_of (ownerRefusals (place_of account) found)) (numbered_first number (orders false) (orders true) (found_code (place_of account) number (orders false) (λ e. h (b.code ∙ e))))
+              ∙ ap (λ (found : List Order). first_of (owner_refusals (place_of account) found)) (numbered_first number (orders false) (orders true) (found_code (place_of account) number (orders false) (λ e. h (b.code ∙ e))))
               ∙ sym b.code
 
           pub bid_done : {u : Update} {d : Decision} → bid.code ≡ 0 → u ≡ Listing (counted_as l bid.count l.sold) → d ≡ accepted_by u number bid.lots → CancelIs d buys' sells
@@ -353,7 +353,7 @@ module _ {s : State} {buys sells trades : List ℕ} (w : WellFormedState s buys 
             missing = missing_code (place_of account) number (orders false) (λ e. p (b.code ∙ e)) (λ e. q (b.code ∙ e))
 
             offer_code : code_of (exchange_of m) (Cancel account contract operator number) ≡ offer.code
-            offer_code = cancel_is ∙ ap (λ (found : List Order). first_of (ownerRefusals (place_of account) found)) (numbered_append_none number (orders false) (orders true) missing) ∙ sym o.code
+            offer_code = cancel_is ∙ ap (λ (found : List Order). first_of (owner_refusals (place_of account) found)) (numbered_append_none number (orders false) (orders true) missing) ∙ sym o.code
 
             pub offer_refused : {d : Decision} → offer.code ≢ 0 → d ≡ refused_by offer.code → CancelIs d buys' sells'
             offer_refused e a =

@@ -53,8 +53,8 @@ pub record Arrived (e : Entered) (accounts : List Account) (a : Arrival) (owns :
   pub answer : r.answer ≡ answer_of 0 a.taker.number (traded_lots e.trades) e.rested
   pub listed : r.listed ≡ entered_on a.listed a.taker.sell (length e.own) (length e.opposite) (a.listed.recorded + length e.trades) (last_price a.listed.terms.last e.trades)
   pub accounts_booked : r.accounts ≡ book_trades accounts e.trades
-  pub own_queue : owns' ≡ put_queue owns a.listed.place own e.own
-  pub opposite_queue : opposites' ≡ put_queue opposites a.listed.place opposite e.opposite
+  pub own_queue_lem : owns' ≡ put_queue owns a.listed.place own e.own
+  pub opposite_queue_lem : opposites' ≡ put_queue opposites a.listed.place opposite e.opposite
   pub trades : area' ≡ store trade_words area (trade_stride * a.listed.recorded) e.trades
 
 -- ---- the same of the two areas as they are lent, by the order's side

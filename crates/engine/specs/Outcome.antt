@@ -1,7 +1,7 @@
 -- What a kind gives and leaves, against what the rules give and leave. Assumes nothing.
 use Rattle.std.specs.Prelude.{Bool, false, not, ◌&&◌, List, ◌≡◌, ℕ, eqb, ℤ, get_or, set}
 use Rattle.rules.specs.Bounds.{continuous, in_auction}
-use Rattle.rules.specs.Answers.{Refusal, absentRefusals, first_of}
+use Rattle.rules.specs.Answers.{Refusal, absent_refusals, first_of}
 use Rattle.rules.specs.Exchange.{Exchange, is_absent, no_account, no_contract, place_of}
 use Rattle.rules.specs.Step.{answer_of, with_balance, with_phase}
 use Rattle.rules.specs.Memory.{AfterCommand, Declared, exchange_of, memory}
@@ -21,7 +21,7 @@ CodeIn s refusals code = Declared s → (buys sells trades : List ℕ) → code 
 
 -- 2 and 3 in any state with so many accounts and contracts in use; code 0 says that the account and the contract are
 pub record AbsentIs (accounts contracts account contract code : ℕ) : Type 0 where
-  pub first : (s : State) → s.accountcount ≡ accounts → s.contractcount ≡ contracts → CodeIn s (λ x. absentRefusals x account contract) code
+  pub first : (s : State) → s.accountcount ≡ accounts → s.contractcount ≡ contracts → CodeIn s (λ x. absent_refusals x account contract) code
   pub account_in_use_lem : code ≡ 0 → is_absent account accounts ≡ false
   pub contract_in_use_lem : code ≡ 0 → is_absent contract contracts ≡ false
 

@@ -2,7 +2,7 @@
 ghost use Rattle.std.specs.Prelude.{◌≡◌, pos, ◌+ℤ◌, ◌≤◌};
 ghost use Rattle.std.specs.Int.Signed.{lt_z};
 ghost use Rattle.rules.specs.Bounds.{balance_most, max_amount, max_balance};
-ghost use Rattle.rules.specs.Answers.{amountRefused};
+ghost use Rattle.rules.specs.Answers.{amount_refused};
 ghost use Rattle.rules.specs.Memory.{memory, WellFormedState};
 ghost use Rattle.rules.specs.declared.Command.TheVariants.{Deposit, Withdraw};
 ghost use Rattle.laws.specs.Bound.{Within};
@@ -14,7 +14,7 @@ use crate::{answers, updates};
 use rules::{Account, State};
 
 fn amount_refused(amount: u64) -> bool
-    ensures { result ≡ amountRefused amount }
+    ensures { result ≡ amount_refused amount }
 {
     if amount < 1 {
         return true;

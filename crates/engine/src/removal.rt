@@ -1,7 +1,7 @@
 // Cancel and pull. For our own crates: each asks for a well-formed state.
 ghost use Rattle.std.specs.Prelude.{true, ◌≡◌, ◌+◌, ◌<◌, ◌≤◌, length, set};
 ghost use Rattle.rules.specs.Bounds.{max_contracts, max_accounts};
-ghost use Rattle.rules.specs.Answers.{pullRefusals, removalRefused};
+ghost use Rattle.rules.specs.Answers.{pull_refusals, removal_refused};
 ghost use Rattle.rules.specs.Memory.{queue_in, memory, WellFormedState, first_word};
 ghost use Rattle.rules.specs.WellFormed.{numbers, used_once};
 ghost use Rattle.rules.specs.declared.Command.TheVariants.{Cancel, Pull};
@@ -16,7 +16,7 @@ use rules::{AUCTION, CONTINUOUS, Contract, NO_TRADING, State};
 
 // "Cancel and pull need continuous, or no trading with the operator bit." In auction they work too.
 fn is_refused(terms: Contract, operator: bool) -> bool
-    ensures { result ≡ removalRefused terms operator }
+    ensures { result ≡ removal_refused terms operator }
 {
     let phase = terms.phase;
     if phase == CONTINUOUS || phase == AUCTION {
@@ -31,7 +31,7 @@ fn is_refused(terms: Contract, operator: bool) -> bool
 // The tests that cancel and pull share: 2, 3 or 4, and 0 where none refuses. Requires at most 4 contracts and 32 accounts.
 fn refusal(state: State, account: u32, contract: u32, operator: bool) -> u32
     requires { (state.contractcount ≤ max_contracts) × (state.accountcount ≤ max_accounts) }
-    ensures { CodeIn state (λ x. pullRefusals x account contract operator) result }
+    ensures { CodeIn state (λ x. pull_refusals x account contract operator) result }
 {
     let absent = answers::absent_code(state.accountcount, state.contractcount, account, contract);
     if absent != 0 {

@@ -11,7 +11,7 @@ use lib.ListN.{get_or}
 use Rattle.laws.specs.Choice.{all, all_ext, all_of, all_of_all}
 use Rattle.rules.specs.Bounds.{closed, max_settlements}
 use Rattle.rules.specs.Kinds.{code_of, decide, kind_of}
-use Rattle.rules.specs.Answers.{first_of, settleRefusals}
+use Rattle.rules.specs.Answers.{first_of, settle_refusals}
 use Rattle.rules.specs.Command.{is_settle}
 use Rattle.rules.specs.Exchange.{Listing, listing_at, no_contract, no_listing}
 use Rattle.rules.specs.Memory.{Memory, exchange_of, listing_in, respond, step_in, well_formed_memory, memory, WellFormedState}
@@ -61,15 +61,15 @@ module _ {s : State} {buys sells trades : List ℕ} (k : WellFormedState s buys 
       ∙ all_ext _ _ s.contractcount (λ c h. ap (λ (l : Listing). eqb l.contract.phase closed) (listing_at_lem m f c h))
 
   pub settle_open : all (λ c. eqb (get_or s.contracts c no_contract).phase closed) s.contractcount ≡ false → code_of (exchange_of m) Settle ≡ 18
-  unfolding code_of kind_of settleRefusals first_of
+  unfolding code_of kind_of settle_refusals first_of
   settle_open e = rw (closed_test, e)
 
   pub settle_many : all (λ c. eqb (get_or s.contracts c no_contract).phase closed) s.contractcount ≡ true → max_settlements ≤ s.settlements → code_of (exchange_of m) Settle ≡ 19
-  unfolding code_of kind_of settleRefusals first_of exchange_of
+  unfolding code_of kind_of settle_refusals first_of exchange_of
   settle_many e h = rw (closed_test, e, le-leb max_settlements s.settlements h)
 
   pub settle_none : all (λ c. eqb (get_or s.contracts c no_contract).phase closed) s.contractcount ≡ true → s.settlements < max_settlements → code_of (exchange_of m) Settle ≡ 0
-  unfolding code_of kind_of settleRefusals first_of exchange_of
+  unfolding code_of kind_of settle_refusals first_of exchange_of
   settle_none e h = rw (closed_test, e, lt-leb max_settlements s.settlements h)
 
   -- a settlement refused, and one made

@@ -10,7 +10,7 @@ use denote.Enum.Declared.{tag_of}
 use lib.ListN.{length, get_or, drop}
 use types.Run.{OneOf, miss}
 use Rattle.laws.specs.Choice.{pick, pick_true, pick_false, either_false}
-use Rattle.rules.specs.Answers.{isGoodForDay}
+use Rattle.rules.specs.Answers.{is_good_for_day}
 use Rattle.rules.specs.Bounds.{in_auction, max_contracts}
 use Rattle.rules.specs.Exchange.{no_order}
 use Rattle.rules.specs.Matching.{Entered, counterpart, enter, rest_lots, rest_whole, rested_lots, sweep, traded_lots, untouched}
@@ -81,7 +81,7 @@ module _ (a : Arrival) where
   pub rested_auction : a.listed.terms.phase ≡ 4 → a.order.lots ≡ rested_alone a
   rested_auction e = rw (eq-eqb a.listed.terms.phase 4 e)
 
-  module _ (elsewhere : a.listed.terms.phase ≡ 4 → ⊥) {day : Bool} (ed : day ≡ isGoodForDay a.order.time) where
+  module _ (elsewhere : a.listed.terms.phase ≡ 4 → ⊥) {day : Bool} (ed : day ≡ is_good_for_day a.order.time) where
     pub rested_day : day ≡ true → a.order.lots ≡ rested_alone a
     rested_day e = rw (ne_eqb a.listed.terms.phase 4 elsewhere, sym ed ∙ e)
 
@@ -148,16 +148,16 @@ module _ {a : Arrival} {owns : List ℕ} {own : ℕ} {opposites : List ℕ} {opp
                   answer = rw (er, traded_nil);
                   listed = el ∙ same_on a.listed a.taker.sell (en ∙ rw (ep, er)) (sym (length_queue opposites a.listed.place opposite)) none.made none.last;
                   accounts_booked = none.accounts;
-                  own_queue = eq ∙ rw (ep, er);
-                  opposite_queue = sym (put_queue_lem opposites a.listed.place opposite arrives.queue);
+                  own_queue_lem = eq ∙ rw (ep, er);
+                  opposite_queue_lem = sym (put_queue_lem opposites a.listed.place opposite arrives.queue);
                   trades = none.trades;
                 });
           })
 
   -- ---- it trades
 
-  module _ {accounts : List Account} {area : List ℕ} (t : TradesOn accounts a owns own opposites opposite area) {day : Bool} (ed : day ≡ isGoodForDay a.order.time) where
-    swept : entered_for a mine others ≡ enter a.taker lots (limit_of a.order.condition) (isGoodForDay a.order.time) a.listed.terms.last mine others
+  module _ {accounts : List Account} {area : List ℕ} (t : TradesOn accounts a owns own opposites opposite area) {day : Bool} (ed : day ≡ is_good_for_day a.order.time) where
+    swept : entered_for a mine others ≡ enter a.taker lots (limit_of a.order.condition) (is_good_for_day a.order.time) a.listed.terms.last mine others
     swept = pick_false (in_auction a.listed.terms) _ _ t.matched
 
     pub enters : EntryReady a.taker lots price day a.listed.terms.last accounts owns own opposites opposite area a.listed.recorded
@@ -166,7 +166,7 @@ module _ {a : Arrival} {owns : List ℕ} {own : ℕ} {opposites : List ℕ} {opp
         (record {
           sweeps = t.sweeps;
           rests =
-              subst⁻¹ (λ (k : ℕ). first_word k (length (enter a.taker lots (limit_of a.order.condition) (isGoodForDay a.order.time) a.listed.terms.last (queue_in owns k own) (queue_in opposites k opposite)).own) ≤ length owns)
+              subst⁻¹ (λ (k : ℕ). first_word k (length (enter a.taker lots (limit_of a.order.condition) (is_good_for_day a.order.time) a.listed.terms.last (queue_in owns k own) (queue_in opposites k opposite)).own) ≤ length owns)
               arrives.place (rw swept at arrives.rests);
         })
 
@@ -177,14 +177,14 @@ module _ {a : Arrival} {owns : List ℕ} {own : ℕ} {opposites : List ℕ} {opp
     traded_on {e} {owns'} {opposites'} {area'} is-entry el =
         let is : EntryIs (entered_for a mine others) a.listed.place owns own opposites opposite area a.listed.recorded a.listed.terms.last accounts e owns' opposites' area'
         = rw swept
-        (subst (λ (k : ℕ). EntryIs (enter a.taker lots (limit_of a.order.condition) (isGoodForDay a.order.time) a.listed.terms.last (queue_in owns k own) (queue_in opposites k opposite)) k owns own opposites opposite area a.listed.recorded a.listed.terms.last accounts e owns' opposites' area')
+        (subst (λ (k : ℕ). EntryIs (enter a.taker lots (limit_of a.order.condition) (is_good_for_day a.order.time) a.listed.terms.last (queue_in owns k own) (queue_in opposites k opposite)) k owns own opposites opposite area a.listed.recorded a.listed.terms.last accounts e owns' opposites' area')
         arrives.place (rw (ep, ed) at is-entry)) in
         record {
           answer = rw (is.traded, is.rested);
           listed = el ∙ same_on a.listed a.taker.sell is.own_count is.opposite_count is.made is.last;
           accounts_booked = is.accounts;
-          own_queue = is.own_queue;
-          opposite_queue = is.opposite_queue;
+          own_queue_lem = is.own_queue_lem;
+          opposite_queue_lem = is.opposite_queue_lem;
           trades = is.trades;
         }
 

@@ -8,7 +8,7 @@ use native.Mathlib.Omega.{arith}
 use borrow.Author.Tests.{le-ltb, ltb-false}
 use lib.ListN.{length, get_or}
 use Rattle.laws.specs.Choice.{ap_pick, pick, pick_false, for_either}
-use Rattle.rules.specs.Answers.{insertRefusals, listingOf, orderRefusals, taker_of, tradesNeeded, tradesRefused, takerFor}
+use Rattle.rules.specs.Answers.{insert_refusals, listing_of, order_refusals, taker_of, trades_needed, trades_refused, taker_for}
 use Rattle.rules.specs.Bounds.{in_auction, max_resting, max_trades, max_contracts, numbers_end}
 use Rattle.rules.specs.Exchange.{Exchange, Listing, opposite, own, place_of, with_queues}
 use Rattle.rules.specs.Kinds.{code_of, decide, kind_of}
@@ -21,7 +21,7 @@ use Rattle.rules.specs.declared.NewOrder.{NewOrder}
 use Rattle.rules.specs.declared.Order.{Order}
 use Rattle.rules.specs.declared.State.{State}
 use Rattle.rules.specs.declared.Taker.{Taker}
-use Rattle.theory.proofs.AuctionSteps.{trades_needed as trades-entered}
+use Rattle.theory.proofs.AuctionSteps.{trades_needed_lem as trades-entered}
 use Rattle.theory.proofs.Terms.{terms}
 use Rattle.theory.proofs.Refusals.{failed}
 use Rattle.prices.proofs.Methods.{method_has_tick}
@@ -52,7 +52,7 @@ use Rattle.refusals.proofs.Sides.{contract_is, contract_terms, held_low, opposit
 
 module _ (sell : Bool) (c : Contract) (mine others : List Order) where
   own_with : own sell (with_queues sell c mine others) ≡ mine
-  own_with = for_either _ sell refl refl
+  own_with = for_either (λ s. own s (with_queues s c mine others) ≡ mine) refl refl sell
 
 -- ---- and each written where it lies
 
@@ -81,7 +81,7 @@ module _ (s : State) (buys sells : List ℕ) (o : NewOrder) {area : List ℕ} (e
   pub arrival_room : Known s buys sells o → QueueRoom area (place_of o.contract) count
   arrival_room k = rw (ea, count_here) k.opposite
 
-  pub arrival_made : (number quote next : ℕ) {t : Taker} → t ≡ takerFor number quote l.nextstamp l.terms (queue_in area (place_of o.contract) count) o
+  pub arrival_made : (number quote next : ℕ) {t : Taker} → t ≡ taker_for number quote l.nextstamp l.terms (queue_in area (place_of o.contract) count) o
       → record { order = o; taker = t; listed = record { place = l.place; terms = l.terms; bought = l.bought; sold = l.sold; recorded = l.recorded; next = next; nextstamp = l.nextstamp + 1 } }
       ≡ arrival_of s buys sells o number quote next
   arrival_made number quote next et = rw (et, ea, count_here, el, ep)
@@ -124,30 +124,30 @@ module _ {s : State} {buys sells trades : List ℕ} (w : WellFormedState s buys 
   abbrev entered : Entered
   entered = entered_for arriving_order mine others
 
-  taker_is : taker_of x number quote o ≡ takerFor number quote s.nextstamp (terms_in) others o
-  unfolding taker_of listingOf exchange_of
+  taker_is : taker_of x number quote o ≡ taker_for number quote s.nextstamp (terms_in) others o
+  unfolding taker_of listing_of exchange_of
   taker_is = rw (opposite_is m f c here.contract o.sell, contract_is m f c here.contract)
 
-  last_is : (listingOf x o).contract.last ≡ terms_in.last
-  unfolding listingOf
+  last_is : (listing_of x o).contract.last ≡ terms_in.last
+  unfolding listing_of
   last_is = ap (λ (k : Contract). k.last) (contract_is m f c here.contract)
 
-  terms_are : (listingOf x o).contract ≡ terms_in
-  unfolding listingOf
+  terms_are : (listing_of x o).contract ≡ terms_in
+  unfolding listing_of
   terms_are = contract_is m f c here.contract
 
   entered_is : entered_of x number quote o ≡ entered
-  unfolding entered_of listingOf
+  unfolding entered_of listing_of
   entered_is = rw (taker_is, last_is, terms_are, side_is m f c here.contract o.sell, opposite_is m f c here.contract o.sell)
 
-  trades_needed : in_auction (terms_in) ≡ false → tradesNeeded x number o ≡ length (sweep (takerFor number quote s.nextstamp (terms_in) others o) o.lots terms_in.last others).trades
+  trades_needed_lem : in_auction (terms_in) ≡ false → trades_needed x number o ≡ length (sweep (taker_for number quote s.nextstamp (terms_in) others o) o.lots terms_in.last others).trades
   unfolding enter
-  trades_needed e = trades-entered x number quote o ∙ ap (λ (r : Entered). length r.trades) (entered_is ∙ pick_false (in_auction (terms_in)) _ _ e)
+  trades_needed_lem e = trades-entered x number quote o ∙ ap (λ (r : Entered). length r.trades) (entered_is ∙ pick_false (in_auction (terms_in)) _ _ e)
 
   -- ---- the state after it
 
   abbrev listing : Listing
-  listing = listing_after (listingOf x o) o.sell entered
+  listing = listing_after (listing_of x o) o.sell entered
 
   abbrev after : Exchange
   after = with_trades x c listing entered.trades next (x.nextstamp + 1)
@@ -155,8 +155,8 @@ module _ {s : State} {buys sells trades : List ℕ} (w : WellFormedState s buys 
   few : (side : Bool) → length (own side listing) ≤ max_resting
   few side = rw (← entered_is) (g.few side)
 
-  trades_fit : length x.trades + tradesNeeded x number o ≤ max_trades
-  unfolding tradesRefused
+  trades_fit : length x.trades + trades_needed x number o ≤ max_trades
+  unfolding trades_refused
   trades_fit = ltb-false _ _ g.room
 
   after_counted : Counted after
@@ -176,14 +176,14 @@ module _ {s : State} {buys sells trades : List ℕ} (w : WellFormedState s buys 
   -- ---- ready for the book
 
   sweeps : in_auction (terms_in) ≡ false
-      → SweepReady (takerFor number quote s.nextstamp (terms_in) others o) o.lots terms_in.last s.accounts (side_area (not o.sell) buys sells) (side_count (not o.sell) s c) trades s.tradecount
+      → SweepReady (taker_for number quote s.nextstamp (terms_in) others o) o.lots terms_in.last s.accounts (side_area (not o.sell) buys sells) (side_count (not o.sell) s c) trades s.tradecount
   sweeps e =
       record {
         contract = omega (arith, here.contract, f.contracts_high);
         method = method_has_tick (terms_in) (terms (terms_in) (contract_terms m f c here.contract)).tick_low;
         size = g.lots;
         queue = (side_room m f c here.contract (not o.sell)).room;
-        room = omega (arith, trades_fit, trades_count m f, trades_needed e, f.trades_room);
+        room = omega (arith, trades_fit, trades_count m f, trades_needed_lem e, f.trades_room);
         parties =
             record {
               used = s.accountcount;
@@ -224,9 +224,9 @@ module _ {s : State} {buys sells trades : List ℕ} (w : WellFormedState s buys 
   module _ {r : Carried} {owns' opposites' area' : List ℕ}
       (is : Arrived entered s.accounts arriving_order (side_area o.sell buys sells) (side_count o.sell s c) (side_area (not o.sell) buys sells) (side_count (not o.sell) s c) trades r owns' opposites' area') where
     lies : put m after ≡ memory (with_carried s r) (pick o.sell opposites' owns') (pick o.sell owns' opposites') area'
-    unfolding listing_after listingOf exchange_of
+    unfolding listing_after listing_of exchange_of
     lies =
-        rw (is.listed, is.accounts_booked, is.own_queue, is.opposite_queue, is.trades)
+        rw (is.listed, is.accounts_booked, is.own_queue_lem, is.opposite_queue_lem, is.trades)
         (put_traded m f c listing entered.trades next (x.nextstamp + 1) here.contract after_formed after_counted
         ∙ rw (
           contract_is m f c here.contract,
@@ -284,12 +284,12 @@ module _ {s : State} {buys sells trades : List ℕ} (w : WellFormedState s buys 
   counted : Counted (exchange_after x₁ o (entered_of x₁ number quote o) next)
   counted = entered_counted x₁ (formed w).contents number quote next given o passed marked (sound m₁ w.formed).counts
 
-  few_left : (side : Bool) → length (own side (listing_after (listingOf x₁ o) o.sell (entered_of x₁ number quote o))) ≤ max_resting
+  few_left : (side : Bool) → length (own side (listing_after (listing_of x₁ o) o.sell (entered_of x₁ number quote o))) ≤ max_resting
   unfolding exchange_after
   few_left side = few_after m₁ (formed w) (place_of o.contract) _ _ next (x₁.nextstamp + 1) there.contract leaves counted side
 
   pub may_enter : Enterable s buys sells trades o number quote next
-  unfolding exchange_of tradesRefused
+  unfolding exchange_of trades_refused
   may_enter =
       record {
         present = there;
@@ -319,9 +319,9 @@ module _ {s : State} {buys sells trades : List ℕ} (w : WellFormedState s buys 
   next_low = numbered x' o accepted
 
   there : Present s o
-  unfolding code_of kind_of insertRefusals orderRefusals
+  unfolding code_of kind_of insert_refusals order_refusals
   there =
-      let tests = failed (insertRefusals x' o) (omega arith) accepted in
+      let tests = failed (insert_refusals x' o) (omega arith) accepted in
       present w o (sym (no_account_lem m' (formed w) o.account) ∙ tests.0) (sym (no_contract_lem m' (formed w) o.contract) ∙ tests.1.0)
 
   pub enterable : Enterable s buys sells trades o s.next 0 (s.next + 1)

@@ -1,7 +1,7 @@
 -- An order that enters: how it is made of a state, when it may enter, and what is decided of it with no account read. Assumes nothing.
 use Rattle.std.specs.Prelude.{Bool, true, false, not, ◌||◌, List, [], ◌∷◌, ◌≡◌, ℕ, ◌+◌, ◌<◌, ◌≤◌, length, get_or}
 use Rattle.laws.specs.Choice.{pick}
-use Rattle.rules.specs.Answers.{isGoodForDay, listingOf, takerFor, tradesRefused}
+use Rattle.rules.specs.Answers.{is_good_for_day, listing_of, taker_for, trades_refused}
 use Rattle.rules.specs.Bounds.{in_auction, max_contracts, max_lots, max_resting, numbers_end}
 use Rattle.rules.specs.Exchange.{no_contract, own, place_of}
 use Rattle.rules.specs.Kinds.{done}
@@ -34,8 +34,8 @@ pub record Enterable (s : State) (buys sells trades : List ℕ) (o : NewOrder) (
   pub present : Present s o
   pub lots : o.lots ≤ max_lots
   pub stamp : s.nextstamp < numbers_end
-  pub room : tradesRefused (exchange_of (memory s buys sells trades)) number o ≡ false
-  pub few : (side : Bool) → length (own side (listing_after (listingOf (exchange_of (memory s buys sells trades)) o) o.sell (entered_of (exchange_of (memory s buys sells trades)) number quote o))) ≤ max_resting
+  pub room : trades_refused (exchange_of (memory s buys sells trades)) number o ≡ false
+  pub few : (side : Bool) → length (own side (listing_after (listing_of (exchange_of (memory s buys sells trades)) o) o.sell (entered_of (exchange_of (memory s buys sells trades)) number quote o))) ≤ max_resting
   pub leaves : well_formed_contents (exchange_after (exchange_of (memory s buys sells trades)) o (entered_of (exchange_of (memory s buys sells trades)) number quote o) next) ≡ true
 
 -- the answer to it, and what it leaves
@@ -56,7 +56,7 @@ abbrev pub arrival_of : State → List ℕ → List ℕ → NewOrder → ℕ →
 arrival_of s buys sells o number quote next =
     record {
       order = o;
-      taker = takerFor number quote s.nextstamp (get_or s.contracts (place_of o.contract) no_contract) (queue_in (side_area (not o.sell) buys sells) (place_of o.contract) (side_count (not o.sell) s (place_of o.contract))) o;
+      taker = taker_for number quote s.nextstamp (get_or s.contracts (place_of o.contract) no_contract) (queue_in (side_area (not o.sell) buys sells) (place_of o.contract) (side_count (not o.sell) s (place_of o.contract))) o;
       listed =
           record {
             place = place_of o.contract;
@@ -81,7 +81,7 @@ rests_alone a opposite = in_auction a.listed.terms || unmet a.taker opposite
 
 -- the lots that rest of it
 abbrev pub rested_alone : Arrival → ℕ
-rested_alone a = pick (in_auction a.listed.terms || isGoodForDay a.order.time) a.order.lots 0
+rested_alone a = pick (in_auction a.listed.terms || is_good_for_day a.order.time) a.order.lots 0
 
 -- ---- what is decided of it: whatever the accounts and the trades are, it leaves them so; or it is left to trade, and its side is as it was
 

@@ -45,7 +45,7 @@ resting_now m w =
     let k = (sound m w).contents in
     record {
       opens = λ a c l h sell. (k.holding a c l h).opens sell;
-      closes = λ a c l h sell. for_either _ sell ((k.holding a c l h).closes false) ((k.holding a c l h).closes true);
+      closes = λ a c l h sell. for_either (λ s. resting_closes a (own s (listing_at (exchange_of m) c)) ≤ pick s (holding_in m a c).long (holding_in m a c).short) ((k.holding a c l h).closes false) ((k.holding a c l h).closes true) sell;
     }
 
 -- .. and so in every memory that a run from one leaves

@@ -3,7 +3,7 @@
 use Rattle.laws.specs.Logic.{Bool, true, false, not, List, [], ◌∷◌, ◌≡◌, refl}
 use Rattle.laws.specs.Numbers.{ℕ, zero, suc, get_or, set}
 use Rattle.laws.specs.Choice.{pick, all_of}
-use Rattle.rules.specs.Answers.{listingOf, taker_of}
+use Rattle.rules.specs.Answers.{listing_of, taker_of}
 use Rattle.rules.specs.Auction.{Matched, match_at, match_of}
 use Rattle.rules.specs.Change.{Asked, listing_lessened, place_kept, unmarked}
 use Rattle.rules.specs.Exchange.{Exchange, Listing, listing_at, listing_named, no_listing, opposite, own, place_of}
@@ -63,12 +63,12 @@ module _ (test : ℕ → Bool → Order → Bool) (fewer : (c : ℕ) (sell : Boo
     abbrev place : ℕ
     place = place_of o.contract
 
-    mine_rest : (lots price : ℕ) → all_of (test place o.sell) (rest_lots (taker_of y number quote o) price lots (own o.sell (listingOf y o))) ≡ true
-    unfolding listingOf
-    mine_rest lots price = rested_all (taker_of y number quote o) price (test place o.sell) lots (own o.sell (listingOf y o)) (λ some. passes price lots) (h place o.sell)
+    mine_rest : (lots price : ℕ) → all_of (test place o.sell) (rest_lots (taker_of y number quote o) price lots (own o.sell (listing_of y o))) ≡ true
+    unfolding listing_of
+    mine_rest lots price = rested_all (taker_of y number quote o) price (test place o.sell) lots (own o.sell (listing_of y o)) (λ some. passes price lots) (h place o.sell)
 
-    others_rest : all_of (test place (not o.sell)) (opposite o.sell (listingOf y o)) ≡ true
-    unfolding listingOf
+    others_rest : all_of (test place (not o.sell)) (opposite o.sell (listing_of y o)) ≡ true
+    unfolding listing_of
     others_rest = rw (← other_own o.sell (listing_at y place)) (h place (not o.sell))
 
     queues_rest : (mine others : List Order) → all_of (test place o.sell) mine ≡ true → all_of (test place (not o.sell)) others ≡ true →
@@ -85,12 +85,12 @@ module _ (test : ℕ → Bool → Order → Bool) (fewer : (c : ℕ) (sell : Boo
     pub entered_resting : (next : ℕ) → AllResting test (exchange_after y o (entered_of y number quote o) next)
     unfolding exchange_after listing_after rest_whole enter
     entered_resting next =
-        relisted_resting y (exchange_after y o (entered_of y number quote o) next) place (listing_after (listingOf y o) o.sell (entered_of y number quote o)) refl h
+        relisted_resting y (exchange_after y o (entered_of y number quote o) next) place (listing_after (listing_of y o) o.sell (entered_of y number quote o)) refl h
         (entered_either y number quote o
-        (λ e. (sell : Bool) → all_of (test place sell) (own sell (listing_after (listingOf y o) o.sell e)) ≡ true)
+        (λ e. (sell : Bool) → all_of (test place sell) (own sell (listing_after (listing_of y o) o.sell e)) ≡ true)
         (λ a. queues_rest _ _ (mine_rest o.lots (limit_of o.condition)) others_rest)
         (λ a. queues_rest _ _ (mine_rest _ (limit_of o.condition))
-        (rest_all (test place (not o.sell)) (fewer place (not o.sell)) (taker_of y number quote o) o.lots (listingOf y o).contract.last (opposite o.sell (listingOf y o)) others_rest)))
+        (rest_all (test place (not o.sell)) (fewer place (not o.sell)) (taker_of y number quote o) o.lots (listing_of y o).contract.last (opposite o.sell (listing_of y o)) others_rest)))
 
   -- ---- the match of an auction
 

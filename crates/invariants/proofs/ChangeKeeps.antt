@@ -7,7 +7,7 @@ use Rattle.laws.specs.Numbers.{ℕ, ◌+◌, ◌<◌, ◌≤◌, le_refl, arith,
 use Rattle.laws.specs.Numbers.{leb, ltb, length, get_or, set, length-set, get_or-set_same}
 use Rattle.laws.specs.Choice.{pick, all_of, all_of_append, both_true, true_both, either_false}
 use Rattle.laws.specs.Sums.{sum_of, sum_of_append, sum_of_at, sum_of_set}
-use Rattle.rules.specs.Answers.{first_of, listingOf, namedRefusals, noSuchOrder, notContinuous, numbered, ofAnother, ownerRefusals, Refusal, restingOrder, tradesRefused}
+use Rattle.rules.specs.Answers.{first_of, listing_of, named_refusals, no_such_order, not_continuous, numbered, of_another, owner_refusals, Refusal, resting_order, trades_refused}
 use Rattle.rules.specs.Bounds.{allowed_today, max_lots, max_resting}
 use Rattle.rules.specs.Change.{Asked, arriving, change_refusals, changed, gone, is_sell, lessened, listing_lessened, loses_place, new_fields_refusals, old_order, place_kept, place_lost, reentered, reentry_refusals, unchanged, unmarked}
 use Rattle.rules.specs.Exchange.{Exchange, Listing, listing_at, listing_named, no_listing, no_order, own, place_of, lots_where, resting}
@@ -34,9 +34,9 @@ use Rattle.invariants.proofs.Removal.{removed_counted, removed_keeps}
 
 module _ (n : ℕ) where
   -- it passes what every order passes, and has the number
-  found : (test : Order → Bool) (os : List Order) → all_of test os ≡ true → noSuchOrder (numbered n os) ≡ false →
+  found : (test : Order → Bool) (os : List Order) → all_of test os ≡ true → no_such_order (numbered n os) ≡ false →
       (test (get_or (numbered n os) 0 no_order) ≡ true) × ((get_or (numbered n os) 0 no_order).number ≡ n)
-  unfolding noSuchOrder numbered all_of
+  unfolding no_such_order numbered all_of
   found test [] h e = absurd (true≢false e)
   found test (o ∷ os) h e = by_number (eqb o.number n) refl (found test os q.1) e
     where
@@ -44,20 +44,20 @@ module _ (n : ℕ) where
       q = both_true (test o) (all_of test os) h
 
       by_number : (b : Bool) → eqb o.number n ≡ b →
-          (noSuchOrder (numbered n os) ≡ false → (test (get_or (numbered n os) 0 no_order) ≡ true) × ((get_or (numbered n os) 0 no_order).number ≡ n)) →
-          noSuchOrder (pick b (o ∷ []) (numbered n os)) ≡ false →
+          (no_such_order (numbered n os) ≡ false → (test (get_or (numbered n os) 0 no_order) ≡ true) × ((get_or (numbered n os) 0 no_order).number ≡ n)) →
+          no_such_order (pick b (o ∷ []) (numbered n os)) ≡ false →
           (test (get_or (pick b (o ∷ []) (numbered n os)) 0 no_order) ≡ true) × ((get_or (pick b (o ∷ []) (numbered n os)) 0 no_order).number ≡ n)
       by_number true k ih f = (q.0, eqb-true o.number n k)
       by_number false k ih f = ih f
 
   -- a sell where it is not among the buys
-  behind : (os ps : List Order) → noSuchOrder (numbered n (os ++ ps)) ≡ false → noSuchOrder (numbered n os) ≡ true → noSuchOrder (numbered n ps) ≡ false
-  unfolding noSuchOrder numbered
+  behind : (os ps : List Order) → no_such_order (numbered n (os ++ ps)) ≡ false → no_such_order (numbered n os) ≡ true → no_such_order (numbered n ps) ≡ false
+  unfolding no_such_order numbered
   behind [] ps e f = e
   behind (o ∷ os) ps e f = by_number (eqb o.number n) (behind os ps) e f
     where
-      by_number : (b : Bool) → (noSuchOrder (numbered n (os ++ ps)) ≡ false → noSuchOrder (numbered n os) ≡ true → noSuchOrder (numbered n ps) ≡ false) →
-          noSuchOrder (pick b (o ∷ []) (numbered n (os ++ ps))) ≡ false → noSuchOrder (pick b (o ∷ []) (numbered n os)) ≡ true → noSuchOrder (numbered n ps) ≡ false
+      by_number : (b : Bool) → (no_such_order (numbered n (os ++ ps)) ≡ false → no_such_order (numbered n os) ≡ true → no_such_order (numbered n ps) ≡ false) →
+          no_such_order (pick b (o ∷ []) (numbered n (os ++ ps))) ≡ false → no_such_order (pick b (o ∷ []) (numbered n os)) ≡ true → no_such_order (numbered n ps) ≡ false
       by_number true ih e f = absurd (false≢true f)
       by_number false ih e f = ih e f
 
@@ -66,13 +66,13 @@ module _ (n : ℕ) where
   flip o false e = ne_eqb n o.number (λ k. eqb-false o.number n e (sym k))
 
   -- so its number is used there
-  found_used : (os : List Order) → noSuchOrder (numbered n os) ≡ false → 1 ≤ uses number_of n os
-  unfolding noSuchOrder numbered uses sum_of
+  found_used : (os : List Order) → no_such_order (numbered n os) ≡ false → 1 ≤ uses number_of n os
+  unfolding no_such_order numbered uses sum_of
   found_used [] e = absurd (true≢false e)
   found_used (o ∷ os) e = by_number (eqb o.number n) refl (found_used os) e
     where
-      by_number : (b : Bool) → eqb o.number n ≡ b → (noSuchOrder (numbered n os) ≡ false → 1 ≤ uses number_of n os) →
-          noSuchOrder (pick b (o ∷ []) (numbered n os)) ≡ false → 1 ≤ pick (eqb n o.number) 1 0 + uses number_of n os
+      by_number : (b : Bool) → eqb o.number n ≡ b → (no_such_order (numbered n os) ≡ false → 1 ≤ uses number_of n os) →
+          no_such_order (pick b (o ∷ []) (numbered n os)) ≡ false → 1 ≤ pick (eqb n o.number) 1 0 + uses number_of n os
       by_number true k ih f = rw (flip o true k) (omega arith)
       by_number false k ih f = rw (flip o false k) (omega (arith, ih f))
 
@@ -134,8 +134,8 @@ module _ (x : Exchange) (w : WellFormed x) (k : Asked) (e : first_of (change_ref
   -- before the loss of its place
   before_loss : List Refusal
   before_loss =
-      namedRefusals x notContinuous k.account k.contract
-      ++ ownerRefusals (place_of k.account) (restingOrder listing number)
+      named_refusals x not_continuous k.account k.contract
+      ++ owner_refusals (place_of k.account) (resting_order listing number)
       ++ new_fields_refusals listing.contract k.lots k.price
 
   passed : Failed before_loss × (first_of (pick (loses_place x k) (reentry_refusals (gone x k) number (arriving x k)) []) ≡ 0)
@@ -150,11 +150,11 @@ module _ (x : Exchange) (w : WellFormed x) (k : Asked) (e : first_of (change_ref
   unfolding before_loss
   there = present k.contract x.listings passed.0.1.0
 
-  pub rests : noSuchOrder (numbered number (listing.buys ++ listing.sells)) ≡ false
-  unfolding before_loss restingOrder
+  pub rests : no_such_order (numbered number (listing.buys ++ listing.sells)) ≡ false
+  unfolding before_loss resting_order
   rests = passed.0.1.1.1.0
 
-  pub owned : ofAnother (place_of k.account) (restingOrder listing number) ≡ false
+  pub owned : of_another (place_of k.account) (resting_order listing number) ≡ false
   unfolding before_loss
   owned = passed.0.1.1.1.1.0
 
@@ -189,16 +189,16 @@ module _ (x : Exchange) (w : WellFormed x) (k : Asked) (e : first_of (change_ref
 
   -- its mark is one of an open or a close
   pub its_close : (old_order x k).close ≤ 1
-  unfolding old_order restingOrder
+  unfolding old_order resting_order
   its_close =
       (order_ok (length x.accounts) x.next x.nextstamp listing.contract _ (found number in_range (listing.buys ++ listing.sells) all_in_range rests).0).close
 
   -- it rests on its side
   mine_used : 1 ≤ uses number_of number (own (is_sell x k) listing)
   unfolding is_sell
-  mine_used = by_side (noSuchOrder (numbered number listing.buys)) refl
+  mine_used = by_side (no_such_order (numbered number listing.buys)) refl
     where
-      by_side : (b : Bool) → noSuchOrder (numbered number listing.buys) ≡ b → 1 ≤ uses number_of number (own b listing)
+      by_side : (b : Bool) → no_such_order (numbered number listing.buys) ≡ b → 1 ≤ uses number_of number (own b listing)
       by_side true q = found_used number listing.sells (behind number listing.buys listing.sells rests q)
       by_side false q = found_used number listing.buys q
 
@@ -257,18 +257,18 @@ module _ (x : Exchange) (w : WellFormed x) (k : Asked) (e : first_of (change_ref
     mine_left false = refl
 
     -- 13 CANNOT OCCUR: its own side has one order fewer
-    pub has_room : Counted x → length (own (is_sell x k) (listingOf (gone x k) (arriving x k))) < max_resting
-    unfolding gone arriving listingOf listing_at
+    pub has_room : Counted x → length (own (is_sell x k) (listing_of (gone x k) (arriving x k))) < max_resting
+    unfolding gone arriving listing_of listing_at
     has_room n =
         rw (get_or-set_same x.listings place left no_listing there, mine_left (is_sell x k))
         (omega (arith, without_shorter number (own (is_sell x k) listing), mine_used, n.queues place (is_sell x k) there))
 
-    its_price : allowed_today (listingOf (gone x k) (arriving x k)).contract k.price ≡ true
-    unfolding gone arriving listingOf listing_at
+    its_price : allowed_today (listing_of (gone x k) (arriving x k)).contract k.price ≡ true
+    unfolding gone arriving listing_of listing_at
     its_price = rw (get_or-set_same x.listings place left no_listing there) (price_allowed some)
 
     pub passes : Counted x → Passes (gone x k) number (arriving x k)
-    unfolding gone arriving tradesRefused
+    unfolding gone arriving trades_refused
     passes n =
         record {
           account = account_there;
@@ -277,7 +277,7 @@ module _ (x : Exchange) (w : WellFormed x) (k : Asked) (e : first_of (change_ref
           lots_high = lots_high;
           limited = λ g. refl;
           rests = λ a. refl;
-          price = λ limit q. subst (λ (p : ℕ). allowed_today (listingOf (gone x k) (arriving x k)).contract p ≡ true) (ap limit_of q) its_price;
+          price = λ limit q. subst (λ (p : ℕ). allowed_today (listing_of (gone x k) (arriving x k)).contract p ≡ true) (ap limit_of q) its_price;
           opens = open_lots_lem (gone x k) (arriving x k) reentry_passed.0;
           closes = close_lots (gone x k) (arriving x k) reentry_passed.0;
           stamp = leb-false _ _ reentry_passed.1.1.0;
@@ -310,7 +310,7 @@ module _ (x : Exchange) (w : WellFormed x) (k : Asked) (e : first_of (change_ref
     some_lots = omega (arith, eqb-false k.lots 0 some)
 
     both_fit : all_of (fits number k.lots) (listing.buys ++ listing.sells) ≡ true
-    unfolding old_order restingOrder uses uses_in
+    unfolding old_order resting_order uses uses_in
     both_fit =
         found_fits number k.lots (listing.buys ++ listing.sells)
         (omega (

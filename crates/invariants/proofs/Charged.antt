@@ -4,7 +4,7 @@ use Rattle.laws.specs.Logic.{Bool, true, false, List, ◌∷◌, ◌≡◌, refl
 use Rattle.laws.specs.Numbers.{ℕ, zero, suc, ◌+◌, ◌*◌, ◌<◌, ◌≤◌, le_refl, mul-le-mul_left, arith, eq-eqb, eqb, length, set, length-set}
 use Rattle.laws.specs.Choice.{pick, pick_same, all_of}
 use Rattle.laws.specs.Lists.{at_set}
-use Rattle.rules.specs.Answers.{listingOf, mark, taker_of}
+use Rattle.rules.specs.Answers.{listing_of, mark, taker_of}
 use Rattle.rules.specs.Exchange.{Exchange, Listing, contract_at, holding_at, listing_at, no_listing, opposite, own, resting_opens, with_queues}
 use Rattle.rules.specs.Holdings.{book_trades}
 use Rattle.rules.specs.Margin.{charge, charged, charged_lots, charged_lots_with, charged_to, included_to}
@@ -104,12 +104,12 @@ module _ {x : Exchange} {number quote next : ℕ} {o : NewOrder} (entry : Entera
   arriving a = opens_for a (account entry) (mark o.close) o.lots
 
   abbrev bound : ℕ → ℕ
-  bound a = charged_lots_with (listingOf x o) a (holding_at x.accounts a (place entry)) o.sell (arriving a)
+  bound a = charged_lots_with (listing_of x o) a (holding_at x.accounts a (place entry)) o.sell (arriving a)
 
   before_bound : Before entry bound
   unfolding taker_of remainder
   before_bound a l =
-      bounded o.sell (listingOf x o) (place entry) (contract_limit entry a) (arriving a) x.accounts a
+      bounded o.sell (listing_of x o) (place entry) (contract_limit entry a) (arriving a) x.accounts a
       (arrived entry) (resting_cons 0 a (arrived entry) (mine entry)) (kept_before entry a l)
 
   lots_after : (a : ℕ) → a < length x.accounts → charged_lots (after entry) a (holding_at (accounts_after entry) a (place entry)) ≤ bound a
@@ -121,13 +121,13 @@ module _ {x : Exchange} {number quote next : ℕ} {o : NewOrder} (entry : Entera
 
   relisted : Relisted x (place entry) (after entry) (lots_swept entry).trades
       (exchange_after x o (entered_of x number quote o) next)
-  unfolding exchange_after listing_after listingOf
+  unfolding exchange_after listing_after listing_of
   relisted = record { there = entry.passes.contract; listings = refl; accounts = refl; here = its_trades entry; charge_same = refl }
 
   -- WHAT IS CHARGED AFTER AN ORDER IS ENTERED is at most what was with its lots included
   pub entered_charged : (a : ℕ) → a < length x.accounts → charged (exchange_after x o (entered_of x number quote o) next) a
       ≤ included_to x a (place entry) o.sell (arriving a) (length x.listings)
-  unfolding listingOf
+  unfolding listing_of
   entered_charged a l =
       relisted_charged x (place entry) (after entry) (lots_swept entry).trades
       (exchange_after x o (entered_of x number quote o) next) relisted a o.sell (arriving a) (lots_after a l)

@@ -80,9 +80,9 @@ module _ (accounts next nextstamp : ℕ) (m : Listing) where
       let q = both_true (order_test m.buys) (order_test m.sells) o in
       record {
         contract = k;
-        order = λ sell. for_either _ sell p.0 p.1.0;
+        order = for_either _ p.0 p.1.0;
         apart = unless (in_auction m.contract) (uncrossed m.buys m.sells) p.1.1;
-        orders = λ sell. for_either _ sell q.0 q.1;
+        orders = for_either _ q.0 q.1;
       }
 
   queues_test : ListingOk accounts next nextstamp m → queues_sorted m ≡ true
@@ -118,7 +118,7 @@ module _ (accounts : List Account) where
   unfolding listing_quoted
   both_marks_ok m h sell =
       let p = both_true (queue_quoted accounts m.buys) (queue_quoted accounts m.sells) h in
-      for_either _ sell (marks_ok m.buys p.0) (marks_ok m.sells p.1)
+      for_either (λ s. MarksOk accounts (own s m)) (marks_ok m.buys p.0) (marks_ok m.sells p.1) sell
 
   both_marks_test : (m : Listing) → ((sell : Bool) → MarksOk accounts (own sell m)) → listing_quoted accounts m ≡ true
   unfolding listing_quoted
@@ -199,8 +199,8 @@ module _ (m : Listing) (a : ℕ) (h : Holding) where
       record {
         startlong = omega (arith, leb-true);
         startshort = omega (arith, leb-true);
-        opens = λ sell. for_either _ sell (leb-true _ _ p.1.1.0) (leb-true _ _ p.1.1.1.0);
-        closes = λ sell. for_either _ sell (leb-true _ _ p.1.1.1.1.1) (leb-true _ _ p.1.1.1.1.0);
+        opens = for_either _ (leb-true _ _ p.1.1.0) (leb-true _ _ p.1.1.1.0);
+        closes = for_either _ (leb-true _ _ p.1.1.1.1.1) (leb-true _ _ p.1.1.1.1.0);
       }
 
   pub holding_test : HoldingOk m a h → holding_in_range m a h ≡ true

@@ -3,7 +3,7 @@
 use Rattle.laws.specs.Logic.{Bool, true, false, List, [], ◌∷◌, ◌++◌, ◌≡◌, refl, ap, subst⁻¹, ◌∙◌}
 use Rattle.laws.specs.Numbers.{ℕ, ◌+◌, ◌<◌, arith, length, get_or-set_same}
 use Rattle.laws.specs.Choice.{pick, pick_true, for_either}
-use Rattle.rules.specs.Answers.{phaseRefusals}
+use Rattle.rules.specs.Answers.{phase_refusals}
 use Rattle.rules.specs.Auction.{match_of}
 use Rattle.rules.specs.Bounds.{in_auction}
 use Rattle.rules.specs.Change.{Asked, arriving, changed, gone, loses_place, place_lost, reentered}
@@ -85,7 +85,7 @@ module _ (x : Exchange) (k : Sound x) (contract phase : ℕ) (e : code_of x (Pha
   c = place_of contract
 
   there : c < length x.listings
-  unfolding code_of kind_of phaseRefusals
+  unfolding code_of kind_of phase_refusals
   there = present contract x.listings (failed (kind_of x (Phase contract phase)).refusals (omega arith) e).1.0
 
   used_once_lem : (sell : Bool) → used_once (numbers (pick sell (listing_at x c).sells (listing_at x c).buys)) ≡ true
@@ -104,7 +104,7 @@ module _ (x : Exchange) (k : Sound x) (contract phase : ℕ) (e : code_of x (Pha
 
   left_queues : (sell : Bool) → own sell (listing_at (exchange_matched x c phase (auction_of x c)) c) ≡ left_on sell (auction_of x c)
   unfolding listing_matched
-  left_queues sell = ap (own sell) left_listing ∙ (for_either _ sell refl refl)
+  left_queues sell = ap (own sell) left_listing ∙ (for_either (λ s. own s (listing_matched (listing_at x c) phase (auction_of x c)) ≡ left_on s (auction_of x c)) refl refl sell)
 
   auction_held : AuctionHeld x c phase (step x (Phase contract phase))
   unfolding exchange_matched

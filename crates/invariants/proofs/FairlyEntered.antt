@@ -4,7 +4,7 @@ use Rattle.laws.specs.Logic.{Bool, true, false, not, true≢false, List, [], ◌
 use Rattle.laws.specs.Numbers.{ℕ, zero, suc, ◌+◌, min, arith, eqb, length, get_or, get_or-set_same}
 use Rattle.laws.specs.Choice.{all_of, all_of_imp, pick, by_test}
 use Rattle.laws.specs.Sums.{sum_of}
-use Rattle.rules.specs.Answers.{fillableLots, isFillOrKill, isGoodForDay, listingOf, taker_of}
+use Rattle.rules.specs.Answers.{fillable_lots, is_fill_or_kill, is_good_for_day, listing_of, taker_of}
 use Rattle.rules.specs.Bounds.{in_auction, on_tick}
 use Rattle.rules.specs.Exchange.{Exchange, Listing, listing_at, lots_where, no_listing, opposite, own, place_of}
 use Rattle.rules.specs.FairCommands.{Entering, FairlyEntered}
@@ -51,7 +51,7 @@ module _ (x : Exchange) (k : WellFormed x) (number quote : ℕ) (o : NewOrder) (
   t = taker_of x number quote o
 
   abbrev l : Listing
-  l = listingOf x o
+  l = listing_of x o
 
   abbrev queue : List Order
   queue = opposite o.sell l
@@ -60,7 +60,7 @@ module _ (x : Exchange) (k : WellFormed x) (number quote : ℕ) (o : NewOrder) (
   last = l.contract.last
 
   ok : ListingOk (length x.accounts) x.next x.nextstamp l
-  unfolding listingOf
+  unfolding listing_of
   ok = k.listing (place_of o.contract) p.contract
 
   -- the queue that it meets is the own queue of the other side
@@ -75,7 +75,7 @@ module _ (x : Exchange) (k : WellFormed x) (number quote : ℕ) (o : NewOrder) (
   in_order = other_side (λ sell q. sorted sell q ≡ true) ok.order
 
   used_once_lem : used_once (numbers queue) ≡ true
-  unfolding listingOf listing_at
+  unfolding listing_of listing_at
   used_once_lem = other_side (λ sell q. used_once (numbers q) ≡ true) (once_each x.listings k.once (place_of o.contract))
 
   on_tick_lem : all_of (λ q. on_tick l.contract.tick q.price) queue ≡ true
@@ -88,8 +88,8 @@ module _ (x : Exchange) (k : WellFormed x) (number quote : ℕ) (o : NewOrder) (
   by_sweep : (P : Entered → Type 0) → in_auction l.contract ≡ false → P (entered_by_sweep x number quote o) → P (entered_of x number quote o)
   by_sweep P a h = subst⁻¹ P (entered_elsewhere x number quote o a) h
 
-  fillable_is : fillable t queue ≡ fillableLots x o
-  unfolding fillable taker_of fillableLots
+  fillable_is : fillable t queue ≡ fillable_lots x o
+  unfolding fillable taker_of fillable_lots
   fillable_is = refl
 
   -- ---- 11, of the order
@@ -105,19 +105,19 @@ module _ (x : Exchange) (k : WellFormed x) (number quote : ℕ) (o : NewOrder) (
   most_traded a = by_sweep (λ e. traded_lots e.trades ≡ min o.lots (fillable t queue)) a (swept_fillable t o.lots last queue in_order refl)
 
   -- fill or kill is entered outside auction alone, and can be filled
-  not_auctioned : isGoodForDay o.time ≡ false → in_auction l.contract ≡ false
+  not_auctioned : is_good_for_day o.time ≡ false → in_auction l.contract ≡ false
   not_auctioned g = by_test (in_auction l.contract) (λ e. absurd (true≢false (sym (p.rests e) ∙ g))) (λ e. e)
 
   whole_traded : o.time ≡ FillOrKill → traded_lots (entered_of x number quote o).trades ≡ o.lots
-  whole_traded e = omega (arith, most_traded (not_auctioned (ap isGoodForDay e)), fillable_is, p.kill (ap isFillOrKill e))
+  whole_traded e = omega (arith, most_traded (not_auctioned (ap is_good_for_day e)), fillable_is, p.kill (ap is_fill_or_kill e))
 
-  rests_whole : isGoodForDay o.time ≡ true → traded_lots (entered_of x number quote o).trades + (entered_of x number quote o).rested ≡ o.lots
+  rests_whole : is_good_for_day o.time ≡ true → traded_lots (entered_of x number quote o).trades + (entered_of x number quote o).rested ≡ o.lots
   unfolding enter rest_whole rested_lots
   rests_whole g =
       entered_either x number quote o (λ e. traded_lots e.trades + e.rested ≡ o.lots) (λ a. omega (arith, traded_nil))
       (λ a. rw g (omega (arith, swept_at_most t o.lots last queue)))
 
-  none_rests : isGoodForDay o.time ≡ false → ((entered_of x number quote o).rested ≡ 0) × ((entered_of x number quote o).own ≡ own o.sell l)
+  none_rests : is_good_for_day o.time ≡ false → ((entered_of x number quote o).rested ≡ 0) × ((entered_of x number quote o).own ≡ own o.sell l)
   unfolding enter rested_lots rest_lots
   none_rests g = by_sweep (λ e. (e.rested ≡ 0) × (e.own ≡ own o.sell l)) (not_auctioned g) (rw g (refl, refl))
 
@@ -142,11 +142,11 @@ module _ (x : Exchange) (k : WellFormed x) (number quote : ℕ) (o : NewOrder) (
   abbrev entering : ℕ → Entering
   entering next = record { state = x; number = number; quote = quote; next = next; order = o }
 
-  left_listing : (next : ℕ) → listingOf (exchange_after x o (entered_of x number quote o) next) o ≡ listing_after l o.sell (entered_of x number quote o)
-  unfolding listingOf listing_at exchange_after
+  left_listing : (next : ℕ) → listing_of (exchange_after x o (entered_of x number quote o) next) o ≡ listing_after l o.sell (entered_of x number quote o)
+  unfolding listing_of listing_at exchange_after
   left_listing next = get_or-set_same x.listings (place_of o.contract) (listing_after l o.sell (entered_of x number quote o)) no_listing p.contract
 
-  own_left : (next : ℕ) → own o.sell (listingOf (exchange_after x o (entered_of x number quote o) next) o) ≡ (entered_of x number quote o).own
+  own_left : (next : ℕ) → own o.sell (listing_of (exchange_after x o (entered_of x number quote o) next) o) ≡ (entered_of x number quote o).own
   unfolding listing_after
   own_left next = ap (own o.sell) (left_listing next) ∙ by_side o.sell
     where
@@ -154,7 +154,7 @@ module _ (x : Exchange) (k : WellFormed x) (number quote : ℕ) (o : NewOrder) (
       by_side true = refl
       by_side false = refl
 
-  opposite_left : (next : ℕ) → opposite o.sell (listingOf (exchange_after x o (entered_of x number quote o) next) o) ≡ (entered_of x number quote o).opposite
+  opposite_left : (next : ℕ) → opposite o.sell (listing_of (exchange_after x o (entered_of x number quote o) next) o) ≡ (entered_of x number quote o).opposite
   unfolding listing_after
   opposite_left next = ap (opposite o.sell) (left_listing next) ∙ by_side o.sell
     where
@@ -168,8 +168,8 @@ module _ (x : Exchange) (k : WellFormed x) (number quote : ℕ) (o : NewOrder) (
   fairly_entered next =
       record {
         leaves = refl;
-        own_queue = own_left next;
-        opposite_queue = opposite_left next;
+        own_queue_lem = own_left next;
+        opposite_queue_lem = opposite_left next;
         recorded = refl;
         priority =
             entered_either x number quote o (λ e. PriceThenTime (not o.sell) queue e.opposite e.trades) (λ a. none_priority (not o.sell) queue)

@@ -3,7 +3,7 @@
 use Rattle.laws.specs.Logic.{Bool, true, false, ◌&&◌, ◌||◌, true≢false, false≢true, List, [], ◌∷◌, ◌++◌, ◌≢◌, ◌≡◌, refl, sym, ap, ◌∙◌}
 use Rattle.laws.specs.Numbers.{ℕ, ◌+◌, ◌≤◌, le_refl, arith, eqb-true, eqb-false, leb-true, eq-eqb, le-leb, not-false, eqb, leb, get_or}
 use Rattle.laws.specs.Choice.{pick, all_of, all_of_imp, both_true, true_both, true_either, either_true}
-use Rattle.rules.specs.Answers.{first_of, mark, noSuchOrder, numbered, ofAnother, restingOrder, taker_of}
+use Rattle.rules.specs.Answers.{first_of, mark, no_such_order, numbered, of_another, resting_order, taker_of}
 use Rattle.rules.specs.Auction.{match_of}
 use Rattle.rules.specs.Change.{Asked, arriving, changed, change_refusals, gone, is_sell, old_order, place_kept, place_lost, reentered, unchanged}
 use Rattle.rules.specs.Exchange.{Exchange, Listing, listing_at, listing_named, no_order, own, place_of}
@@ -55,36 +55,36 @@ some_imp p q f (o ∷ os) h = by_first (λ k. some_imp p q f os k) (p o) refl h
 
 -- ---- the order with a number
 
-found_in : (n : ℕ) (test : Order → Bool) (q : List Order) → noSuchOrder (numbered n q) ≡ false → test (get_or (numbered n q) 0 no_order) ≡ true → some_order (λ p. has_number n p && test p) q ≡ true
-unfolding noSuchOrder numbered some_order
+found_in : (n : ℕ) (test : Order → Bool) (q : List Order) → no_such_order (numbered n q) ≡ false → test (get_or (numbered n q) 0 no_order) ≡ true → some_order (λ p. has_number n p && test p) q ≡ true
+unfolding no_such_order numbered some_order
 found_in n test [] r h = absurd (true≢false r)
 found_in n test (o ∷ os) r h = by_number (λ r h. found_in n test os r h) (has_number n o) refl r h
   where
-    by_number : (noSuchOrder (numbered n os) ≡ false → test (get_or (numbered n os) 0 no_order) ≡ true → some_order (λ p. has_number n p && test p) os ≡ true) →
-        (m : Bool) → has_number n o ≡ m → noSuchOrder (pick m (o ∷ []) (numbered n os)) ≡ false → test (get_or (pick m (o ∷ []) (numbered n os)) 0 no_order) ≡ true →
+    by_number : (no_such_order (numbered n os) ≡ false → test (get_or (numbered n os) 0 no_order) ≡ true → some_order (λ p. has_number n p && test p) os ≡ true) →
+        (m : Bool) → has_number n o ≡ m → no_such_order (pick m (o ∷ []) (numbered n os)) ≡ false → test (get_or (pick m (o ∷ []) (numbered n os)) 0 no_order) ≡ true →
         ((has_number n o && test o) || some_order (λ p. has_number n p && test p) os) ≡ true
     by_number ih true m r h = rw m (true_either (true && test o) _ h)
     by_number ih false m r h = either_true (has_number n o && test o) _ (ih r h)
 
 -- it stands among the sells where it is not among the buys
-found_on : (n : ℕ) (test : Order → Bool) (bs ss : List Order) → noSuchOrder (numbered n (bs ++ ss)) ≡ false → test (get_or (numbered n (bs ++ ss)) 0 no_order) ≡ true →
-    some_order (λ p. has_number n p && test p) (pick (noSuchOrder (numbered n bs)) ss bs) ≡ true
-unfolding noSuchOrder numbered some_order
+found_on : (n : ℕ) (test : Order → Bool) (bs ss : List Order) → no_such_order (numbered n (bs ++ ss)) ≡ false → test (get_or (numbered n (bs ++ ss)) 0 no_order) ≡ true →
+    some_order (λ p. has_number n p && test p) (pick (no_such_order (numbered n bs)) ss bs) ≡ true
+unfolding no_such_order numbered some_order
 found_on n test [] ss r h = found_in n test ss r h
 found_on n test (b ∷ bs) ss r h = by_number (λ r h. found_on n test bs ss r h) (has_number n b) refl r h
   where
-    by_number : (noSuchOrder (numbered n (bs ++ ss)) ≡ false → test (get_or (numbered n (bs ++ ss)) 0 no_order) ≡ true → some_order (λ p. has_number n p && test p) (pick (noSuchOrder (numbered n bs)) ss bs) ≡ true) →
-        (m : Bool) → has_number n b ≡ m → noSuchOrder (pick m (b ∷ []) (numbered n (bs ++ ss))) ≡ false → test (get_or (pick m (b ∷ []) (numbered n (bs ++ ss))) 0 no_order) ≡ true →
-        some_order (λ p. has_number n p && test p) (pick (noSuchOrder (pick (has_number n b) (b ∷ []) (numbered n bs))) ss (b ∷ bs)) ≡ true
+    by_number : (no_such_order (numbered n (bs ++ ss)) ≡ false → test (get_or (numbered n (bs ++ ss)) 0 no_order) ≡ true → some_order (λ p. has_number n p && test p) (pick (no_such_order (numbered n bs)) ss bs) ≡ true) →
+        (m : Bool) → has_number n b ≡ m → no_such_order (pick m (b ∷ []) (numbered n (bs ++ ss))) ≡ false → test (get_or (pick m (b ∷ []) (numbered n (bs ++ ss))) 0 no_order) ≡ true →
+        some_order (λ p. has_number n p && test p) (pick (no_such_order (pick (has_number n b) (b ∷ []) (numbered n bs))) ss (b ∷ bs)) ≡ true
     by_number ih true m r h = rw m (true_either (has_number n b && test b) _ (true_both (has_number n b) (test b) m h))
-    by_number ih false m r h = rw m (later (noSuchOrder (numbered n bs)) (ih r h))
+    by_number ih false m r h = rw m (later (no_such_order (numbered n bs)) (ih r h))
       where
         later : (t : Bool) → some_order (λ p. has_number n p && test p) (pick t ss bs) ≡ true → some_order (λ p. has_number n p && test p) (pick t ss (b ∷ bs)) ≡ true
         later true k = k
         later false k = either_true (has_number n b && test b) _ k
 
-of_account : (a : ℕ) (found : List Order) → noSuchOrder found ≡ false → ofAnother a found ≡ false → is_of a (get_or found 0 no_order) ≡ true
-unfolding noSuchOrder ofAnother
+of_account : (a : ℕ) (found : List Order) → no_such_order found ≡ false → of_another a found ≡ false → is_of a (get_or found 0 no_order) ≡ true
+unfolding no_such_order of_another
 of_account a [] n h = absurd (true≢false n)
 of_account a (o ∷ os) n h = not-false (is_of a o) h
 
@@ -235,13 +235,13 @@ module _ (x : Exchange) where
     its p = is_of (place_of k.account) p && eqb p.close (mark (eqb (old_order x k).close 1))
 
     old_its : its (old_order x k) ≡ true
-    unfolding old_order restingOrder
+    unfolding old_order resting_order
     old_its =
         true_both (is_of (place_of k.account) (old_order x k)) (eqb (old_order x k).close (mark (eqb (old_order x k).close 1)))
-        (of_account (place_of k.account) (restingOrder listing k.number) (rests x w k e) (owned x w k e)) (mark_again (old_order x k).close (its_close x w k e))
+        (of_account (place_of k.account) (resting_order listing k.number) (rests x w k e) (owned x w k e)) (mark_again (old_order x k).close (its_close x w k e))
 
     old_there : some_order (λ p. has_number k.number p && its p) (own (is_sell x k) listing) ≡ true
-    unfolding old_order restingOrder is_sell
+    unfolding old_order resting_order is_sell
     old_there = found_on k.number its listing.buys listing.sells (rests x w k e) old_its
 
     abbrev enters : ℕ → ℕ → Order

@@ -36,9 +36,9 @@ unfolding sorted uncrossed all_of
 listing_quiet accounts next nextstamp c h =
     record {
       contract = h;
-      order = λ sell. for_either _ sell refl refl;
+      order = for_either _ refl refl;
       apart = λ e. refl;
-      orders = λ sell. for_either _ sell refl refl;
+      orders = for_either _ refl refl;
     }
 
 holding_quiet : (c : Contract) (a : ℕ) (h : Holding) → start_holding h ≡ h → h.long ≤ c.limit → h.short ≤ c.limit → HoldingOk (quiet c) a h
@@ -47,8 +47,8 @@ holding_quiet c a h e l s =
     record {
       startlong = omega (arith, ap (λ (k : Holding). k.long) e);
       startshort = omega (arith, ap (λ (k : Holding). k.short) e);
-      opens = λ sell. for_either _ sell (omega arith) (omega arith);
-      closes = λ sell. for_either _ sell (omega arith) (omega arith);
+      opens = for_either _ (omega arith) (omega arith);
+      closes = for_either _ (omega arith) (omega arith);
     }
 
 no_orders : (field : Order → ℕ) (n : ℕ) (contract : ℕ → Contract) → all_listed field (tabulate n (λ c. quiet (contract c))) ≡ []
@@ -91,7 +91,7 @@ module _ (contracts : ℕ) (contract : ℕ → Contract) (accounts : ℕ) (accou
         contracts = rw n h;
         trades = omega arith;
         queues = λ c sell l. rw (listing_at_lem c (rw n at l))
-            (for_either _ sell (omega arith) (omega arith));
+            (for_either (λ s. length (own s (quiet (contract c))) ≤ max_resting) (omega arith) (omega arith) sell);
       }
 
   pub fresh_day_lem : settlements ≤ max_settlements → ((a : ℕ) → a < accounts → (account a).maker ≤ 1) →
@@ -112,7 +112,7 @@ module _ (contracts : ℕ) (contract : ℕ → Contract) (accounts : ℕ) (accou
         listing = λ c l. let h : c < contracts = rw nc at l in rw (listing_at_lem c h) (listing_quiet _ 1 1 (contract c) (in_range_lem c h));
         once = rw (no_orders number_of contracts contract) refl;
         stamps_once = rw (no_orders stamp_of contracts contract) refl;
-        marks = λ c l sell. rw (listing_at_lem c (rw nc at l)) (for_either _ sell (no_marks day.accounts) (no_marks day.accounts));
+        marks = λ c l sell. rw (listing_at_lem c (rw nc at l)) (for_either (λ s. MarksOk day.accounts (own s (quiet (contract c)))) (no_marks day.accounts) (no_marks day.accounts) sell);
         makers = λ a l. let h : a < accounts = rw na at l in rw (account_at_lem a h) (makers a h);
         trades = refl;
         covered = refl;

@@ -5,7 +5,7 @@ use Rattle.laws.specs.Logic.{Bool, true, false, not, ◌&&◌, true≢false, Lis
 use Rattle.laws.specs.Numbers.{ℕ, ◌+◌, ◌-◌, ◌<◌, ◌≤◌, le_refl, arith, eqb-true, leb-true, leb-false, eqb, leb, length}
 use Rattle.laws.specs.Choice.{pick, all_of, by_test, for_either}
 use Rattle.laws.specs.Sums.{sum_of, sum_of_at}
-use Rattle.rules.specs.Answers.{first_of, insertRefusals, isGoodForDay, mark, listingOf, taker_of, fillableLots}
+use Rattle.rules.specs.Answers.{first_of, insert_refusals, is_good_for_day, mark, listing_of, taker_of, fillable_lots}
 use Rattle.rules.specs.Bounds.{in_auction, max_resting}
 use Rattle.rules.specs.Exchange.{Exchange, Listing, listing_at, holding_at, no_listing, place_of, own, opposite, with_queues, resting_opens, resting_closes}
 use Rattle.rules.specs.Holdings.{book_trades}
@@ -14,7 +14,7 @@ use Rattle.rules.specs.Matching.{Swept, fillable, traded_lots, remainder, rest_l
 use Rattle.rules.specs.Step.{with_trades, limit_of, entered_of, listing_after, exchange_after, inserted}
 use Rattle.rules.specs.WellFormed.{all_listed, order_in_range, trade_in_range, number_of, stamp_of, used_once}
 use Rattle.rules.specs.declared.{Account.Account, Contract.Contract, Holding.Holding, NewOrder.NewOrder, Order.Order}
-use Rattle.theory.proofs.AuctionSteps.{entered_either, entered_elsewhere, trades_needed}
+use Rattle.theory.proofs.AuctionSteps.{entered_either, entered_elsewhere, trades_needed_lem}
 use Rattle.theory.proofs.Fillable.{swept_fillable}
 use Rattle.theory.proofs.Holdings.{booked_start_holding}
 use Rattle.theory.proofs.Prices.{method_rounds}
@@ -51,8 +51,8 @@ holding_by_lem sell c mine others d accounts a l s k =
     record {
       startlong = l;
       startshort = s;
-      opens = λ side. for_either _ side k.buy_opens_lem k.sell_opens_lem;
-      closes = λ side. for_either _ side k.buy_closes_lem k.sell_closes_lem;
+      opens = for_either _ k.buy_opens_lem k.sell_opens_lem;
+      closes = for_either _ k.buy_closes_lem k.sell_closes_lem;
     }
 
 -- what holds of its own queue and of the other holds of the queues of both sides
@@ -118,13 +118,13 @@ module _ {x : Exchange} {number quote next : ℕ} {o : NewOrder} (entry : Entera
   place = place_of o.contract
 
   abbrev pub mine : List Order
-  mine = own o.sell (listingOf x o)
+  mine = own o.sell (listing_of x o)
 
   abbrev pub others : List Order
-  others = opposite o.sell (listingOf x o)
+  others = opposite o.sell (listing_of x o)
 
-  holding_before : (a : ℕ) → a < length x.accounts → HoldingOk (listingOf x o) a (holding_at x.accounts a place)
-  unfolding listingOf
+  holding_before : (a : ℕ) → a < length x.accounts → HoldingOk (listing_of x o) a (holding_at x.accounts a place)
+  unfolding listing_of
   holding_before a l = entry.formed.holding a place l entry.passes.contract
 
   opens_start : (a : ℕ) → a < length x.accounts →
@@ -152,7 +152,7 @@ module _ {x : Exchange} {number quote next : ℕ} {o : NewOrder} (entry : Entera
   contract_limit a = (contract_of entry).limit
 
   pub kept_before : Before contract_limit
-  kept_before a l = kept_by o.sell (listingOf x o) place x.accounts a arrived (holding_before a l) (opens_start a l) (closes_start a l)
+  kept_before a l = kept_by o.sell (listing_of x o) place x.accounts a arrived (holding_before a l) (opens_start a l) (closes_start a l)
 
   -- so the order entered keeps them, and its trades close nothing that is not held
   swept_holdings : (limit : ℕ → ℕ) → Before limit → SweptKept (length x.accounts) limit (limit_of o.condition) (taker_of x number quote o) mine x.accounts o.lots lots_swept
@@ -169,7 +169,7 @@ module _ {x : Exchange} {number quote next : ℕ} {o : NewOrder} (entry : Entera
   -- ---- the parts of the state after it
 
   abbrev pub after : Listing
-  after = listing_after (listingOf x o) o.sell (entered_of x number quote o)
+  after = listing_after (listing_of x o) o.sell (entered_of x number quote o)
 
   abbrev pub accounts_after : List Account
   accounts_after = book_trades x.accounts lots_swept.trades
@@ -196,8 +196,8 @@ module _ {x : Exchange} {number quote next : ℕ} {o : NewOrder} (entry : Entera
       (kept_after contract_limit kept_before a l))
 
   -- the quote marks: one more, if it is marked
-  marks_before : (sell : Bool) → MarksOk x.accounts (own sell (listingOf x o))
-  unfolding listingOf
+  marks_before : (sell : Bool) → MarksOk x.accounts (own sell (listing_of x o))
+  unfolding listing_of
   marks_before = entry.formed.marks place entry.passes.contract
 
   others_marks : MarksOk x.accounts lots_swept.rest
@@ -206,7 +206,7 @@ module _ {x : Exchange} {number quote next : ℕ} {o : NewOrder} (entry : Entera
       entered_either x number quote o (λ e. MarksOk x.accounts e.opposite) (λ a. other o.sell)
       (λ a. swept_marks x.accounts (taker_of x number quote o) o.lots (contract_of entry).last others (other o.sell))
     where
-      other : (b : Bool) → MarksOk x.accounts (opposite b (listingOf x o))
+      other : (b : Bool) → MarksOk x.accounts (opposite b (listing_of x o))
       other true = marks_before false
       other false = marks_before true
 
@@ -229,20 +229,20 @@ module _ {x : Exchange} {number quote next : ℕ} {o : NewOrder} (entry : Entera
         entered_either x number quote o (λ e. uses field n e.opposite ≤ uses field n others) (λ e. omega arith)
         (λ e. rest_sum (λ r. pick (eqb n (field r)) 1 0) (λ r m low high. rw (kept r m).0 (le_refl _)) (taker_of x number quote o) o.lots (contract_of entry).last others)
 
-    uses_after : (n : ℕ) → uses_in field n after ≤ uses_in field n (listingOf x o) + pick (eqb n (field arrived)) 1 0
+    uses_after : (n : ℕ) → uses_in field n after ≤ uses_in field n (listing_of x o) + pick (eqb n (field arrived)) 1 0
     unfolding uses_in listing_after
     uses_after n =
         rw (own_is entry)
         (omega (
           arith,
           uses_by field n o.sell mine_after lots_swept.rest,
-          own_uses field n o.sell (listingOf x o),
+          own_uses field n o.sell (listing_of x o),
           mine_uses n,
           others_uses n,
         ))
 
     once_more : used_once (all_listed field x.listings) ≡ true → occurs (field arrived) (all_listed field x.listings) ≡ 0 →
-        (n : ℕ) → occurs n (all_listed field x.listings) + uses_in field n after ≤ 1 + uses_in field n (listingOf x o)
+        (n : ℕ) → occurs n (all_listed field x.listings) + uses_in field n after ≤ 1 + uses_in field n (listing_of x o)
     once_more once unused n = omega (arith, uses_after n, one_more (all_listed field x.listings) (field arrived) once unused n)
 
   -- ---- the state after it
@@ -256,13 +256,13 @@ module _ {x : Exchange} {number quote next : ℕ} {o : NewOrder} (entry : Entera
 
   -- the orders that it meets have other numbers
   others_numbers : all_of (λ r. not (eqb number r.number)) others ≡ true
-  unfolding listingOf listing_at
+  unfolding listing_of listing_at
   others_numbers =
-      unused_others number o.sell (listingOf x o)
+      unused_others number o.sell (listing_of x o)
       (omega (arith, entry.given.unused, all_uses number_of number x.listings, sum_of_at (uses_in number_of number) x.listings place no_listing entry.passes.contract))
 
   new_trades_lem : all_of (trade_in_range afterwards) lots_swept.trades ≡ true
-  unfolding taker_of listingOf rest_whole enter all_of
+  unfolding taker_of listing_of rest_whole enter all_of
   new_trades_lem =
       let listings = traded_listings x place after lots_swept.trades next (x.nextstamp + 1) in
       let accounts = traded_accounts x place after lots_swept.trades next (x.nextstamp + 1) in
@@ -281,7 +281,7 @@ module _ {x : Exchange} {number quote next : ℕ} {o : NewOrder} (entry : Entera
       (λ e. swept_contract (taker_of x number quote o) o.lots (contract_of entry).last others)
 
   trades_ok : TradesOk x place after lots_swept.trades next (x.nextstamp + 1)
-  unfolding listingOf listing_at taker_of remainder listing_after
+  unfolding listing_of listing_at taker_of remainder listing_after
   trades_ok =
       record {
         there = entry.passes.contract;
@@ -303,24 +303,24 @@ module _ {x : Exchange} {number quote next : ℕ} {o : NewOrder} (entry : Entera
   -- ---- the counts
 
   -- fillable lots do not go by the number
-  fillable_is : fillable (taker_of x number quote o) others ≡ fillableLots x o
-  unfolding fillable taker_of fillableLots
+  fillable_is : fillable (taker_of x number quote o) others ≡ fillable_lots x o
+  unfolding fillable taker_of fillable_lots
   fillable_is = refl
 
-  filled : in_auction (contract_of entry) ≡ false → o.lots ≤ fillableLots x o → traded_lots lots_swept.trades ≡ o.lots
+  filled : in_auction (contract_of entry) ≡ false → o.lots ≤ fillable_lots x o → traded_lots lots_swept.trades ≡ o.lots
   unfolding taker_of enter
   filled a h =
       rw (entered_elsewhere x number quote o a)
       (omega (arith, swept_fillable (taker_of x number quote o) o.lots (contract_of entry).last others (sides entry).others_sorted refl, fillable_is))
 
-  none_rested : isGoodForDay o.time ≡ false → rested entry ≡ 0
+  none_rested : is_good_for_day o.time ≡ false → rested entry ≡ 0
   unfolding rest_whole enter rested_lots
   none_rested e = entered_either x number quote o (λ r. r.rested ≡ 0) (λ a. absurd (true≢false (sym (entry.passes.rests a) ∙ e))) (λ a. rw e)
 
   -- code 13: with 64 on its own side nothing rests
   none_rests : max_resting ≤ length mine → rested entry ≡ 0
   none_rests full =
-      by_test (isGoodForDay o.time) (λ e. let r = entry.passes.room e full in omega (arith, rested_left entry, filled r.0 r.1))
+      by_test (is_good_for_day o.time) (λ e. let r = entry.passes.room e full in omega (arith, rested_left entry, filled r.0 r.1))
       (λ e. none_rested e)
 
   mine_length : length mine ≤ max_resting → length mine_after ≤ max_resting
@@ -335,13 +335,13 @@ module _ {x : Exchange} {number quote next : ℕ} {o : NewOrder} (entry : Entera
       entered_either x number quote o (λ e. length e.opposite ≤ length others) (λ e. omega arith)
       (λ e. length_rest (taker_of x number quote o) o.lots (contract_of entry).last others)
 
-  queue_after : ((sell : Bool) → length (own sell (listingOf x o)) ≤ max_resting) → (sell : Bool) → length (own sell after) ≤ max_resting
+  queue_after : ((sell : Bool) → length (own sell (listing_of x o)) ≤ max_resting) → (sell : Bool) → length (own sell after) ≤ max_resting
   unfolding listing_after
   queue_after h =
       rw (own_is entry)
       (each_side (λ (queue : List Order). length queue ≤ max_resting) o.sell _ _ (mine_length (h o.sell)) (omega (arith, others_length, either o.sell)))
     where
-      either : (s : Bool) → length (opposite s (listingOf x o)) ≤ max_resting
+      either : (s : Bool) → length (opposite s (listing_of x o)) ≤ max_resting
       either true = h false
       either false = h true
 
@@ -350,10 +350,10 @@ module _ {x : Exchange} {number quote next : ℕ} {o : NewOrder} (entry : Entera
   entry_keeps = traded_keeps x entry.formed place after lots_swept.trades next (x.nextstamp + 1) trades_ok
 
   pub entry_counted : Counted x → Counted (exchange_after x o (entered_of x number quote o) next)
-  unfolding exchange_after listingOf
+  unfolding exchange_after listing_of
   entry_counted n =
       traded_counted x place after lots_swept.trades next (x.nextstamp + 1) entry.passes.contract (queue_after (λ s. n.queues place s entry.passes.contract))
-      (omega (arith, entry.passes.trades, trades_needed x number quote o)) n
+      (omega (arith, entry.passes.trades, trades_needed_lem x number quote o)) n
 
 -- the same, from its parts
 module _ (x : Exchange) (k : WellFormed x) (number quote next : ℕ) (g : Given x number next) (o : NewOrder) (p : Passes x number o) (z : Marks x quote o) where
@@ -363,7 +363,7 @@ module _ (x : Exchange) (k : WellFormed x) (number quote next : ℕ) (g : Given 
   pub entered_counted : Counted x → Counted (exchange_after x o (entered_of x number quote o) next)
   entered_counted = entry_counted (record { formed = k; given = g; passes = p; marks = z })
 
-module _ (x : Exchange) (o : NewOrder) (e : first_of (insertRefusals x o) ≡ 0) (k : WellFormed x) where
+module _ (x : Exchange) (o : NewOrder) (e : first_of (insert_refusals x o) ≡ 0) (k : WellFormed x) where
   pub insert_enters : Enterable x x.next 0 (x.next + 1) o
   insert_enters =
       let p = passes x o e in

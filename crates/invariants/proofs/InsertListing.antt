@@ -3,7 +3,7 @@ use Rattle.laws.specs.Logic.{Bool, true, false, not, true≢false, false≢true,
 use Rattle.laws.specs.Numbers.{ℕ, ◌+◌, ◌-◌, ◌<◌, ◌≤◌, arith, lt-ltb, ltb, length}
 use Rattle.laws.specs.Choice.{all_of, all_of_imp}
 use Rattle.laws.specs.Chains.{all_passed, join}
-use Rattle.rules.specs.Answers.{isGoodForDay, isLimit, mark, listingOf, taker_of}
+use Rattle.rules.specs.Answers.{is_good_for_day, is_limit, mark, listing_of, taker_of}
 use Rattle.rules.specs.Bounds.{in_auction, phase_known, on_tick, tick_multiple, terms_in_range, allowed_today, day_low, day_high}
 use Rattle.rules.specs.Exchange.{Exchange, place_of, own, opposite}
 use Rattle.rules.specs.Matching.{Swept, traded_lots, last_price, remainder, rest_lots, rest_whole, rested_lots, enter}
@@ -50,10 +50,10 @@ contract_traded c ts h allowed =
 
 -- ---- what rests
 
-is_limit : (condition : PriceCondition) → isLimit condition ≡ true → condition ≡ Limit (limit_of condition)
-is_limit (Limit limit) e = refl
-is_limit Market e = absurd (false≢true e)
-is_limit Best e = absurd (false≢true e)
+is_limit_lem : (condition : PriceCondition) → is_limit condition ≡ true → condition ≡ Limit (limit_of condition)
+is_limit_lem (Limit limit) e = refl
+is_limit_lem Market e = absurd (false≢true e)
+is_limit_lem Best e = absurd (false≢true e)
 
 rested_most : (gfd : Bool) (lots : ℕ) (ts : List Trade) → rested_lots gfd lots ts ≤ lots - traded_lots ts
 unfolding rested_lots
@@ -78,13 +78,13 @@ pub record Enterable (x : Exchange) (number quote next : ℕ) (o : NewOrder) : T
 
 module _ {x : Exchange} {number quote next : ℕ} {o : NewOrder} (entry : Enterable x number quote next o) where
   abbrev pub contract_of : Contract
-  contract_of = (listingOf x o).contract
+  contract_of = (listing_of x o).contract
 
   abbrev pub mine : List Order
-  mine = own o.sell (listingOf x o)
+  mine = own o.sell (listing_of x o)
 
   abbrev pub others : List Order
-  others = opposite o.sell (listingOf x o)
+  others = opposite o.sell (listing_of x o)
 
   -- its trades, the opposite queue after them, and the lots that rest
   abbrev pub swept : Swept
@@ -98,12 +98,12 @@ module _ {x : Exchange} {number quote next : ℕ} {o : NewOrder} (entry : Entera
   unfolding rest_whole enter
   own_is = entered_either x number quote o (λ e. e.own ≡ rest_lots (taker_of x number quote o) (limit_of o.condition) e.rested mine) (λ a. refl) (λ a. refl)
 
-  pub listing_ok : ListingOk (length x.accounts) x.next x.nextstamp (listingOf x o)
-  unfolding listingOf
+  pub listing_ok : ListingOk (length x.accounts) x.next x.nextstamp (listing_of x o)
+  unfolding listing_of
   listing_ok = entry.formed.listing (place_of o.contract) entry.passes.contract
 
   pub sides : SidesOk (length x.accounts) x.next x.nextstamp contract_of o.sell mine others
-  sides = listing_sides (length x.accounts) x.next x.nextstamp o.sell (listingOf x o) listing_ok
+  sides = listing_sides (length x.accounts) x.next x.nextstamp o.sell (listing_of x o) listing_ok
 
   pub last_on_tick : on_tick contract_of.tick contract_of.last ≡ true
   last_on_tick = (multiple contract_of.tick contract_of.last (last_multiple contract_of listing_ok.contract)).on_tick_lem
@@ -130,14 +130,14 @@ module _ {x : Exchange} {number quote next : ℕ} {o : NewOrder} (entry : Entera
   unfolding rest_whole enter
   limit_rests =
       entered_either x number quote o (λ e. 0 < e.rested → o.condition ≡ Limit (limit_of o.condition))
-      (λ a some. is_limit o.condition (entry.passes.limited (entry.passes.rests a)))
-      (λ a some. is_limit o.condition (entry.passes.limited (rested_day (isGoodForDay o.time) o.lots _ some)))
+      (λ a some. is_limit_lem o.condition (entry.passes.limited (entry.passes.rests a)))
+      (λ a some. is_limit_lem o.condition (entry.passes.limited (rested_day (is_good_for_day o.time) o.lots _ some)))
 
   pub rested_left : rested ≤ o.lots - traded_lots swept.trades
   unfolding rest_whole enter
   rested_left =
       entered_either x number quote o (λ e. e.rested ≤ o.lots - traded_lots e.trades) (λ a. omega (arith, traded_nil))
-      (λ a. rested_most (isGoodForDay o.time) o.lots _)
+      (λ a. rested_most (is_good_for_day o.time) o.lots _)
 
   remainder_ok : 0 < rested →
       order_in_range (length x.accounts) next (x.nextstamp + 1) contract_after (remainder (taker_of x number quote o) (limit_of o.condition) rested) ≡ true
@@ -171,8 +171,8 @@ module _ {x : Exchange} {number quote next : ℕ} {o : NewOrder} (entry : Entera
       entered_either x number quote o
       (λ e. in_auction contract_of ≡ false → uncrossed_from o.sell (rest_lots (taker_of x number quote o) (limit_of o.condition) e.rested mine) e.opposite ≡ true)
       (λ a b. absurd (true≢false (sym a ∙ b)))
-      (λ a b. entered_uncrossed (taker_of x number quote o) o.lots (limit_of o.condition) (isGoodForDay o.time) contract_of.last mine others
-      (λ day. is_limit o.condition (entry.passes.limited day)) sides.others_sorted (sides.sides_uncrossed b))
+      (λ a b. entered_uncrossed (taker_of x number quote o) o.lots (limit_of o.condition) (is_good_for_day o.time) contract_of.last mine others
+      (λ day. is_limit_lem o.condition (entry.passes.limited day)) sides.others_sorted (sides.sides_uncrossed b))
 
   left_sorted : sorted (not o.sell) swept.rest ≡ true
   unfolding rest_whole enter
@@ -201,6 +201,6 @@ module _ {x : Exchange} {number quote next : ℕ} {o : NewOrder} (entry : Entera
         others_orders = carried swept.rest left_orders;
       }
 
-  pub listing_after_lem : ListingOk (length x.accounts) next (x.nextstamp + 1) (listing_after (listingOf x o) o.sell (entered_of x number quote o))
+  pub listing_after_lem : ListingOk (length x.accounts) next (x.nextstamp + 1) (listing_after (listing_of x o) o.sell (entered_of x number quote o))
   unfolding listing_after
   listing_after_lem = rw own_is (sides_listing (length x.accounts) next (x.nextstamp + 1) o.sell contract_after _ _ contract_ok sides_after)

@@ -36,7 +36,7 @@ module _ (accounts next nextstamp : ℕ) where
       record {
         mine_sorted = k.order sell;
         others_sorted = rw other_own at (k.order (not sell));
-        sides_uncrossed = for_either _ sell k.apart k.apart;
+        sides_uncrossed = for_either (λ s. in_auction m.contract ≡ false → uncrossed_from s (own s m) (opposite s m) ≡ true) k.apart k.apart sell;
         mine_orders = k.orders sell;
         others_orders = rw other_own at (k.orders (not sell));
       }
@@ -46,16 +46,16 @@ module _ (accounts next nextstamp : ℕ) where
   sides_listing true c mine others r k =
       record {
         contract = r;
-        order = λ side. for_either _ side k.others_sorted k.mine_sorted;
+        order = for_either _ k.others_sorted k.mine_sorted;
         apart = k.sides_uncrossed;
-        orders = λ side. for_either _ side k.others_orders k.mine_orders;
+        orders = for_either _ k.others_orders k.mine_orders;
       }
   sides_listing false c mine others r k =
       record {
         contract = r;
-        order = λ side. for_either _ side k.mine_sorted k.others_sorted;
+        order = for_either _ k.mine_sorted k.others_sorted;
         apart = k.sides_uncrossed;
-        orders = λ side. for_either _ side k.mine_orders k.others_orders;
+        orders = for_either _ k.mine_orders k.others_orders;
       }
 
 -- ---- the remainder comes to rest, if there is one

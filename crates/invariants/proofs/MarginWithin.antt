@@ -8,7 +8,7 @@ use Rattle.laws.specs.Numbers.{ℕ, zero, suc, ◌+◌, ◌*◌, ◌<◌, ◌≤
 use Rattle.laws.specs.Choice.{all_of, by_test}
 use Rattle.laws.specs.Lists.{at_set, kept_at}
 use Rattle.laws.specs.Ring.{le_z_lt_z}
-use Rattle.rules.specs.Answers.{◌when◌, first_of, phaseRefusals, depositRefusals, insertRefusals, leavesTooLittle, mark, moneyRefused, orderRefusals, withdrawRefusals}
+use Rattle.rules.specs.Answers.{◌when◌, first_of, phase_refusals, deposit_refusals, insert_refusals, leaves_too_little, mark, money_refused, order_refusals, withdraw_refusals}
 use Rattle.rules.specs.Auction.{match_of}
 use Rattle.rules.specs.Bounds.{phase_known}
 use Rattle.rules.specs.Change.{Asked, arriving, changed, change_refusals, gone, loses_place, old_order, place_kept, place_lost, reentered, unchanged}
@@ -89,23 +89,23 @@ more_within : (n amount : ℕ) (balance : ℤ) → le_z (pos n) balance ≡ true
 more_within n amount (pos k) e = le-leb n (k + amount) (omega (arith, leb-true n k e))
 more_within n amount (negsuc k) e = absurd (false≢true e)
 
-pub deposit_within : (x : Exchange) (account amount : ℕ) → first_of (depositRefusals x account amount) ≡ 0 → (a : ℕ) → Keeps x (last_of x (deposited x (place_of account) amount).stages) a
-unfolding depositRefusals deposited
+pub deposit_within : (x : Exchange) (account amount : ℕ) → first_of (deposit_refusals x account amount) ≡ 0 → (a : ℕ) → Keeps x (last_of x (deposited x (place_of account) amount).stages) a
+unfolding deposit_refusals deposited
 deposit_within x account amount e =
-    paid_keeps x (place_of account) _ (present account x.accounts (failed (depositRefusals x account amount) (omega arith) e).0)
+    paid_keeps x (place_of account) _ (present account x.accounts (failed (deposit_refusals x account amount) (omega arith) e).0)
     (more_within (charged x (place_of account)) amount (holder_at x (place_of account)).balance)
 
-module _ (x : Exchange) (account amount : ℕ) (e : first_of (withdrawRefusals x account amount) ≡ 0) where
-  refusals : Failed (withdrawRefusals x account amount)
-  unfolding withdrawRefusals
-  refusals = failed (withdrawRefusals x account amount) (omega arith) e
+module _ (x : Exchange) (account amount : ℕ) (e : first_of (withdraw_refusals x account amount) ≡ 0) where
+  refusals : Failed (withdraw_refusals x account amount)
+  unfolding withdraw_refusals
+  refusals = failed (withdraw_refusals x account amount) (omega arith) e
 
   holder : place_of account < length x.accounts
-  unfolding withdrawRefusals
+  unfolding withdraw_refusals
   holder = present account x.accounts refusals.0
 
   enough : le_z (pos (charged x (place_of account))) ((holder_at x (place_of account)).balance -ℤ pos amount) ≡ true
-  unfolding withdrawRefusals leavesTooLittle
+  unfolding withdraw_refusals leaves_too_little
   enough = le_z_lt_z (pos (charged x (place_of account))) ((holder_at x (place_of account)).balance -ℤ pos amount) ∙ ap not refusals.1.1.0
 
   pub withdrawal_within : WithinBalance (last_of x (withdrawn x (place_of account) amount).stages) (place_of account)
@@ -143,7 +143,7 @@ own_open true false e = (refl, refl)
 own_open true true e = absurd (false≢true e)
 own_open false close e = absurd (false≢true e)
 
-module _ {x : Exchange} {number quote next : ℕ} {o : NewOrder} (entry : Enterable x number quote next o) (shaped : Shaped x) (paid_for : moneyRefused x o ≡ false) where
+module _ {x : Exchange} {number quote next : ℕ} {o : NewOrder} (entry : Enterable x number quote next o) (shaped : Shaped x) (paid_for : money_refused x o ≡ false) where
   abbrev left : Exchange
   left = exchange_after x o (entered_of x number quote o) next
 
@@ -177,10 +177,10 @@ module _ {x : Exchange} {number quote next : ℕ} {o : NewOrder} (entry : Entera
       (rw (← none_included x a place o.sell (length x.listings)) (rw e at (entered_charged entry a l)))
       (same_balance a))
 
-pub insert_within : (x : Exchange) → WellFormed x → Shaped x → (o : NewOrder) → first_of (insertRefusals x o) ≡ 0 →
+pub insert_within : (x : Exchange) → WellFormed x → Shaped x → (o : NewOrder) → first_of (insert_refusals x o) ≡ 0 →
     (o.close ≡ false → WithinBalance (last_of x (inserted x o).stages) (place_of o.account))
     × ((a : ℕ) → a < length x.accounts → Keeps x (last_of x (inserted x o).stages) a)
-unfolding inserted insertRefusals orderRefusals
+unfolding inserted insert_refusals order_refusals
 insert_within x k shaped o e =
     let entry = insert_enters x o e k in
     let paid_for = (tests x o e).1.1.1.1.1.1.1.0 in
@@ -213,7 +213,7 @@ module _ (x : Exchange) (k : WellFormed x) (c : ℕ) (there : c < length x.listi
       (record { there = there; listings = refl; accounts = refl; here = (phases.match_ok x k c there).here; charge_same = refl }) a lots_matched)
       (booked_balance x.accounts (match_of x c).trades a)
 
-pub phase_within : (x : Exchange) → WellFormed x → (contract phase : ℕ) → first_of ((1 when not (phase_known phase)) ∷ phaseRefusals x contract phase) ≡ 0 →
+pub phase_within : (x : Exchange) → WellFormed x → (contract phase : ℕ) → first_of ((1 when not (phase_known phase)) ∷ phase_refusals x contract phase) ≡ 0 →
     (a : ℕ) → a < length x.accounts → Keeps x (last_of x (phase_changed x (place_of contract) phase).stages) a
 unfolding phase_changed
 phase_within x k contract phase e = matched_keeps x k (place_of contract) (phases.passes x contract phase e k).0 phase
@@ -236,8 +236,8 @@ module _ (x : Exchange) (k : WellFormed x) (shaped : Shaped x) (q : Offered) (e 
   buys_shaped = shaped_as (entered_shape empty (buy_of q) _ _) empty_shaped
 
   -- of either order, what its list of refusals says of the money
-  paid_for : (y : Exchange) (o : NewOrder) → Failed (orderRefusals y o) → moneyRefused y o ≡ false
-  unfolding orderRefusals
+  paid_for : (y : Exchange) (o : NewOrder) → Failed (order_refusals y o) → money_refused y o ≡ false
+  unfolding order_refusals
   paid_for y o f = f.1.1.1.1.0
 
   abbrev here : place_of q.account < length x.accounts
@@ -249,7 +249,7 @@ module _ (x : Exchange) (k : WellFormed x) (shaped : Shaped x) (q : Offered) (e 
   abbrev maker : (account_at x.accounts (place_of q.account)).maker ≡ 1
   maker = quote.maker x k q e
 
-  abbrev codes : Failed (orderRefusals empty (buy_of q)) × Failed (orderRefusals buys (sell_of q))
+  abbrev codes : Failed (order_refusals empty (buy_of q)) × Failed (order_refusals buys (sell_of q))
   codes = quote.codes x k q e
 
   buy_keeps : (a : ℕ) → a < length empty.accounts → Keeps empty buys a

@@ -4,7 +4,7 @@ use Rattle.laws.specs.Logic.{Bool, true, false, ◌&&◌, ◌||◌, List, [], �
 use Rattle.laws.specs.Numbers.{ℕ, ◌+◌, ◌<◌, ◌≤◌, le_refl, arith, eqb-true, eqb, length}
 use Rattle.laws.specs.Choice.{pick, all_of, all_of_imp}
 use Rattle.laws.specs.Sums.{sum_of}
-use Rattle.rules.specs.Answers.{listingOf, mark}
+use Rattle.rules.specs.Answers.{listing_of, mark}
 use Rattle.rules.specs.Change.{unmarked}
 use Rattle.rules.specs.Exchange.{Exchange, account_at, own, place_of}
 use Rattle.rules.specs.Matching.{sweep, remainder, rest_lots}
@@ -66,10 +66,10 @@ mark_dropped a o n = by_account (eqb o.account a)
 pub record Marks (x : Exchange) (quote : ℕ) (o : NewOrder) : Type 0 where
   pub low : quote ≤ 1
   pub allowed : (eqb quote 0 || eqb (account_at x.accounts (place_of o.account)).maker 1 && eqb (mark o.close) 0) ≡ true
-  pub single : pick (eqb quote 1) 1 0 + quotes (place_of o.account) (own o.sell (listingOf x o)) ≤ 1
+  pub single : pick (eqb quote 1) 1 0 + quotes (place_of o.account) (own o.sell (listing_of x o)) ≤ 1
 
 pub no_mark : (x : Exchange) → WellFormed x → (o : NewOrder) → place_of o.account < length x.accounts → place_of o.contract < length x.listings → Marks x 0 o
-unfolding listingOf
+unfolding listing_of
 no_mark x k o account contract =
     record { low = omega arith; allowed = refl; single = omega (arith, (k.marks (place_of o.contract) contract o.sell).single (place_of o.account) account) }
 

@@ -4,7 +4,7 @@ use Rattle.laws.specs.Logic.{Bool, true, false, not, ◌&&◌, true≢false, fal
 use Rattle.laws.specs.Numbers.{ℕ, zero, suc, ◌+◌, ◌≤◌, arith, eqb-true, eqb-false, eq-eqb, ne_eqb, not-true, not-false, eqb, get_or}
 use Rattle.laws.specs.Choice.{pick, all_of, all_of_append, all_of_imp, both_true, true_both}
 use Rattle.laws.specs.Sums.{sum_of, sum_of_append}
-use Rattle.rules.specs.Answers.{noSuchOrder, numbered, ofAnother, restingOrder}
+use Rattle.rules.specs.Answers.{no_such_order, numbered, of_another, resting_order}
 use Rattle.rules.specs.Exchange.{Exchange, Listing, listing_at, lots_where, no_listing, own, place_of}
 use Rattle.rules.specs.Step.{has_number, is_of, listing_without, without}
 use Rattle.rules.specs.WellFormed.{all_numbers, number_of}
@@ -131,17 +131,17 @@ module _ (n : ℕ) where
   -- ---- of two queues that have it once at most, and where it is found as an account's own: it goes from one of them
 
   module _ (account : ℕ) where
-    its : (o : Order) → ofAnother (place_of account) (o ∷ []) ≡ false → o.account ≡ place_of account
-    unfolding ofAnother
+    its : (o : Order) → of_another (place_of account) (o ∷ []) ≡ false → o.account ≡ place_of account
+    unfolding of_another
     its o h = eqb-true o.account (place_of account) (not-false (eqb o.account (place_of account)) h)
 
-    gone_from : (q : List Order) → (f : Found q) → ofAnother (place_of account) (f.order ∷ []) ≡ false → OneGone account n q (without (has_number n) q)
+    gone_from : (q : List Order) → (f : Found q) → of_another (place_of account) (f.order ∷ []) ≡ false → OneGone account n q (without (has_number n) q)
     gone_from q f h =
         record { front = f.front; order = f.order; back = f.back; was = f.was; left = f.left; itsnumber = f.itsnumber; itsaccount = its f.order h }
 
-    pub one_goes : (l : Listing) → uses number_of n l.buys + uses number_of n l.sells ≤ 1 → noSuchOrder (restingOrder l n) ≡ false → ofAnother (place_of account) (restingOrder l n) ≡ false →
+    pub one_goes : (l : Listing) → uses number_of n l.buys + uses number_of n l.sells ≤ 1 → no_such_order (resting_order l n) ≡ false → of_another (place_of account) (resting_order l n) ≡ false →
         (side : Bool) × OneGone account n (own side l) (own side (listing_without (has_number n) l)) × (own (not side) (listing_without (has_number n) l) ≡ own (not side) l)
-    unfolding restingOrder noSuchOrder
+    unfolding resting_order no_such_order
     one_goes l once there owned =
         ⊎_elim
         (λ b. ⊎_elim
@@ -164,12 +164,12 @@ module _ (n : ℕ) where
         by_test true u e = absurd (false≢true e)
         by_test false u e = refl
 
-    owned : (q : List Order) → uses number_of n q ≤ 1 → ofAnother k (numbered n q) ≡ false → all_of spares q ≡ true
-    unfolding all_of ofAnother
+    owned : (q : List Order) → uses number_of n q ≤ 1 → of_another k (numbered n q) ≡ false → all_of spares q ≡ true
+    unfolding all_of of_another
     owned [] u h = refl
     owned (o ∷ os) u h = by_number (λ z e. owned os z e) (has_number n o) refl
       where
-        by_number : (uses number_of n os ≤ 1 → ofAnother k (numbered n os) ≡ false → all_of spares os ≡ true) → (b : Bool) → has_number n o ≡ b → all_of spares (o ∷ os) ≡ true
+        by_number : (uses number_of n os ≤ 1 → of_another k (numbered n os) ≡ false → all_of spares os ≡ true) → (b : Bool) → has_number n o ≡ b → all_of spares (o ∷ os) ≡ true
         by_number ih true e =
             let h' : not (eqb o.account k) ≡ false = rw (numbered_met o os e) at h in
             let f : o.account ≡ k = eqb-true o.account k (not-false (eqb o.account k) h') in
@@ -178,8 +178,8 @@ module _ (n : ℕ) where
         by_number ih false e =
             true_both (spares o) (all_of spares os) (rw e refl) (ih (omega (arith, uses_unmet o os e, u)) (rw (numbered_unmet o os e) at h))
 
-    pub owned_in : (l : Listing) → uses number_of n l.buys + uses number_of n l.sells ≤ 1 → ofAnother k (restingOrder l n) ≡ false → (sell : Bool) → all_of spares (own sell l) ≡ true
-    unfolding restingOrder uses
+    pub owned_in : (l : Listing) → uses number_of n l.buys + uses number_of n l.sells ≤ 1 → of_another k (resting_order l n) ≡ false → (sell : Bool) → all_of spares (own sell l) ≡ true
+    unfolding resting_order uses
     owned_in l once h = by_side
       where
         all : (all_of spares l.buys ≡ true) × (all_of spares l.sells ≡ true)

@@ -4,7 +4,7 @@ use lib.IntN.{ℤ}
 use Rattle.laws.specs.Logic.{Bool, true, false, not, ◌&&◌, List, [], ◌++◌, append-nil, append_assoc, ◌≡◌, refl, sym, ap, ◌∙◌}
 use Rattle.laws.specs.Numbers.{ℕ, ◌+◌, ◌<◌, ◌≤◌, arith, eqb-true, eqb-false, ne_eqb, eqb, length, length-set, get_or-set_same}
 use Rattle.laws.specs.Choice.{pick, all_of, all_of_imp, for_either}
-use Rattle.rules.specs.Answers.{cancelRefusals, first_of, listingOf, namedRefusals, ownerRefusals, removalRefused, restingOrder, taker_of}
+use Rattle.rules.specs.Answers.{cancel_refusals, first_of, listing_of, named_refusals, owner_refusals, removal_refused, resting_order, taker_of}
 use Rattle.rules.specs.Auction.{match_of}
 use Rattle.rules.specs.Bounds.{on_tick}
 use Rattle.rules.specs.Change.{Asked, arriving, changed, change_refusals, gone, listing_lessened, place_kept, place_lost, reentered, unchanged}
@@ -34,12 +34,12 @@ use Rattle.invariants.proofs.QuoteKeeps.{quote_stages}
 use Rattle.invariants.specs.RestingOrders.{is_of_account}
 
 -- of an accepted cancel: there is such an order, and it is not another account's
-pub cancel_owner : (x : Exchange) (account contract : ℕ) (operator : Bool) (number : ℕ) → first_of (cancelRefusals x account contract operator number) ≡ 0 →
-    Failed (ownerRefusals (place_of account) (restingOrder (listing_named x contract) number))
-unfolding cancelRefusals
+pub cancel_owner : (x : Exchange) (account contract : ℕ) (operator : Bool) (number : ℕ) → first_of (cancel_refusals x account contract operator number) ≡ 0 →
+    Failed (owner_refusals (place_of account) (resting_order (listing_named x contract) number))
+unfolding cancel_refusals
 cancel_owner x account contract operator number e =
-    failed (ownerRefusals (place_of account) (restingOrder (listing_named x contract) number)) (omega arith)
-    (both_zero (namedRefusals x (λ c. removalRefused c operator) account contract) (ownerRefusals (place_of account) (restingOrder (listing_named x contract) number)) (omega arith) e).1
+    failed (owner_refusals (place_of account) (resting_order (listing_named x contract) number)) (omega arith)
+    (both_zero (named_refusals x (λ c. removal_refused c operator) account contract) (owner_refusals (place_of account) (resting_order (listing_named x contract) number)) (omega arith) e).1
 
 module _ (a : ℕ) where
   -- from one state to another: the trades recorded behind the day's earlier ones, and in every contract and on each side what became of the
@@ -93,7 +93,7 @@ module _ (a : ℕ) where
   spared test f l sell = none_its a test f (own sell l)
 
   -- the order that a cancel names is its own account's
-  pub cancel_spares : (x : Exchange) → WellFormed x → (account contract : ℕ) (operator : Bool) (number : ℕ) → first_of (cancelRefusals x account contract operator number) ≡ 0 →
+  pub cancel_spares : (x : Exchange) → WellFormed x → (account contract : ℕ) (operator : Bool) (number : ℕ) → first_of (cancel_refusals x account contract operator number) ≡ 0 →
       eqb (place_of account) a ≡ false → Spared (has_number number) (listing_named x contract)
   cancel_spares x w account contract operator number e other =
       owned_in number a (place_of account) other (listing_named x contract) (once_in x w (place_of contract) number) (cancel_owner x account contract operator number e).1.0
@@ -120,16 +120,16 @@ module _ (a : ℕ) where
     place = place_of o.contract
 
     abbrev After : Entered → Type 0
-    After e = (sell : Bool) → Fate place sell a e.trades (own sell (listingOf x o)) (own sell (listing_after (listingOf x o) o.sell e))
+    After e = (sell : Bool) → Fate place sell a e.trades (own sell (listing_of x o)) (own sell (listing_after (listing_of x o) o.sell e))
 
     abbrev taker : Taker
     taker = taker_of x number quote o
 
     abbrev against : List Order
-    against = opposite o.sell (listingOf x o)
+    against = opposite o.sell (listing_of x o)
 
-    on_tick_lem : all_of (λ r. on_tick (listingOf x o).contract.tick r.price) against ≡ true
-    unfolding listingOf
+    on_tick_lem : all_of (λ r. on_tick (listing_of x o).contract.tick r.price) against ≡ true
+    unfolding listing_of
     on_tick_lem = by_side o.sell
       where
         by_side : (s : Bool) → all_of (λ r. on_tick (listing_at x place).contract.tick r.price) (opposite s (listing_at x place)) ≡ true
@@ -138,31 +138,31 @@ module _ (a : ℕ) where
             (λ r h. (allowed_facts (listing_at x place).contract r.price (order_ok (length x.accounts) x.next x.nextstamp (listing_at x place).contract r h).price).tick)
             (rw (← other_own s (listing_at x place)) ((w.listing place there).orders (not s)))
 
-    tick_low : 1 ≤ (listingOf x o).contract.tick
-    unfolding listingOf
+    tick_low : 1 ≤ (listing_of x o).contract.tick
+    unfolding listing_of
     tick_low = (contract_terms (listing_at x place).contract (w.listing place there).contract).tick_low
 
-    rested_fate : (ts : List Trade) (lots : ℕ) → none_of place o.sell a ts ≡ true → Fate place o.sell a ts (own o.sell (listingOf x o)) (rest_lots taker (limit_of o.condition) lots (own o.sell (listingOf x o)))
+    rested_fate : (ts : List Trade) (lots : ℕ) → none_of place o.sell a ts ≡ true → Fate place o.sell a ts (own o.sell (listing_of x o)) (rest_lots taker (limit_of o.condition) lots (own o.sell (listing_of x o)))
     unfolding taker_of
     rested_fate ts lots z =
-        fate_same place o.sell a ts (own o.sell (listingOf x o)) _ (of_rest_lots a taker (limit_of o.condition) lots (own o.sell (listingOf x o)) other) z
+        fate_same place o.sell a ts (own o.sell (listing_of x o)) _ (of_rest_lots a taker (limit_of o.condition) lots (own o.sell (listing_of x o)) other) z
 
     after_fate : After (entered_of x number quote o)
     unfolding listing_after rest_whole enter taker_of
     after_fate =
         entered_either x number quote o After
-        (λ u. both_sides place [] (listingOf x o) _ _ o.sell (rested_fate [] o.lots (unfold all_of in refl)) (fate_none place (not o.sell) a against against refl))
+        (λ u. both_sides place [] (listing_of x o) _ _ o.sell (rested_fate [] o.lots (unfold all_of in refl)) (fate_none place (not o.sell) a against against refl))
         (λ u.
-        let ts = (sweep taker o.lots (listingOf x o).contract.last against).trades in
-        both_sides place ts (listingOf x o) _ _ o.sell (rested_fate ts _ (swept_none taker a other o.lots (listingOf x o).contract.last against))
-        (sweep_fate taker a (listingOf x o).contract.tick tick_low (method_rounds (listingOf x o).contract) o.lots (listingOf x o).contract.last against on_tick_lem))
+        let ts = (sweep taker o.lots (listing_of x o).contract.last against).trades in
+        both_sides place ts (listing_of x o) _ _ o.sell (rested_fate ts _ (swept_none taker a other o.lots (listing_of x o).contract.last against))
+        (sweep_fate taker a (listing_of x o).contract.tick tick_low (method_rounds (listing_of x o).contract) o.lots (listing_of x o).contract.last against on_tick_lem))
 
-    listing_now : (next : ℕ) → listing_at (exchange_after x o (entered_of x number quote o) next) place ≡ listing_after (listingOf x o) o.sell (entered_of x number quote o)
+    listing_now : (next : ℕ) → listing_at (exchange_after x o (entered_of x number quote o) next) place ≡ listing_after (listing_of x o) o.sell (entered_of x number quote o)
     unfolding exchange_after listing_at
     listing_now next = get_or-set_same x.listings place _ no_listing there
 
     pub entered_fated : (next : ℕ) → Fated x (exchange_after x o (entered_of x number quote o) next)
-    unfolding listingOf
+    unfolding listing_of
     entered_fated next = fated_in place (entered_of x number quote o).trades x _ (entered_in_lem x o number quote next) (λ sell. rw (listing_now next) (after_fate sell))
 
   -- ---- a change of state, with a match where there is one
@@ -180,7 +180,7 @@ module _ (a : ℕ) where
     unfolding exchange_matched listing_matched listing_at
     matched_fated phase =
         fated_in d (match_of x d).trades x _ (matched_in x d phase) (λ sell. rw (get_or-set_same x.listings d _ no_listing there)
-        (for_either _ sell met.0 met.1))
+        (for_either (λ s. Fate d s a (match_of x d).trades (own s (listing_at x d)) (own s (listing_matched (listing_at x d) phase (match_of x d)))) met.0 met.1 sell))
 
   -- ---- a quote: the old one removed, the buy entered, the sell entered
 

@@ -7,7 +7,7 @@ use Rattle.laws.specs.Bound.{within_abs, within_d, abs_within}
 use Rattle.laws.specs.Choice.{either_false}
 use Rattle.laws.specs.Lists.{kept_at, map_set, at_set}
 use Rattle.laws.specs.Ring.{d, d_ind, pos_part, neg_part, split, ring, lt_z_d}
-use Rattle.rules.specs.Answers.{first_of, depositRefusals, withdrawRefusals, liftsTooHigh, leavesTooLittle, amountRefused}
+use Rattle.rules.specs.Answers.{first_of, deposit_refusals, withdraw_refusals, lifts_too_high, leaves_too_little, amount_refused}
 use Rattle.rules.specs.Bounds.{max_balance, max_day_profit}
 use Rattle.rules.specs.Exchange.{Exchange, listing_at, account_at, holding_at, place_of, no_account, no_holding}
 use Rattle.rules.specs.Holdings.{book_trades, start_account, start_of_day}
@@ -101,19 +101,19 @@ withdraw_bound b amount margin n h e =
 -- ---- the two steps
 
 module _ (x : Exchange) (k : WellFormed x) (account amount : ℕ) where
-  pub deposit_keeps : first_of (depositRefusals x account amount) ≡ 0 → WellFormed (last_of x (deposited x (place_of account) amount).stages)
-  unfolding depositRefusals deposited liftsTooHigh
+  pub deposit_keeps : first_of (deposit_refusals x account amount) ≡ 0 → WellFormed (last_of x (deposited x (place_of account) amount).stages)
+  unfolding deposit_refusals deposited lifts_too_high
   deposit_keeps e =
-      let f = failed (depositRefusals x account amount) (omega arith) e in
+      let f = failed (deposit_refusals x account amount) (omega arith) e in
       let there = present account x.accounts f.0 in
-      let low = (either_false (amountRefused amount) (liftsTooHigh x account amount) f.1.0).1 in
+      let low = (either_false (amount_refused amount) (lifts_too_high x account amount) f.1.0).1 in
       paid_keeps x k (place_of account) there _
       (deposit_bound (account_at x.accounts (place_of account)).balance amount max_balance _ (k.balance _ there) (omega arith) low)
 
-  pub withdraw_keeps : first_of (withdrawRefusals x account amount) ≡ 0 → WellFormed (last_of x (withdrawn x (place_of account) amount).stages)
-  unfolding withdrawRefusals withdrawn leavesTooLittle
+  pub withdraw_keeps : first_of (withdraw_refusals x account amount) ≡ 0 → WellFormed (last_of x (withdrawn x (place_of account) amount).stages)
+  unfolding withdraw_refusals withdrawn leaves_too_little
   withdraw_keeps e =
-      let f = failed (withdrawRefusals x account amount) (omega arith) e in
+      let f = failed (withdraw_refusals x account amount) (omega arith) e in
       let there = present account x.accounts f.0 in
       paid_keeps x k (place_of account) there _
       (withdraw_bound (account_at x.accounts (place_of account)).balance amount (charged x (place_of account)) _ (k.balance _ there) f.1.1.0)

@@ -5,7 +5,7 @@ use Rattle.laws.specs.Numbers.{ℕ, ◌+◌, ◌<◌, ◌≤◌, le_refl, arith,
 use Rattle.laws.specs.Choice.{pick, all_of, all_of_imp, for_either}
 use Rattle.laws.specs.Chains.{all_passed, join}
 use Rattle.laws.specs.Sums.{sum_of_at}
-use Rattle.rules.specs.Answers.{◌when◌, first_of, phaseRefusals}
+use Rattle.rules.specs.Answers.{◌when◌, first_of, phase_refusals}
 use Rattle.rules.specs.Auction.{Matched, auction_match, chosen_price, match_at, match_of, volume}
 use Rattle.rules.specs.Bounds.{in_auction, max_phase, max_resting, max_trades, phase_known, terms_in_range, tick_multiple, allowed_today, day_low, day_high}
 use Rattle.rules.specs.Exchange.{Exchange, Listing, listing_at, holding_at, no_listing, place_of, own}
@@ -199,8 +199,8 @@ module _ (x : Exchange) (k : WellFormed x) (c : ℕ) (there : c < length x.listi
         record {
           startlong = rw (ap (λ (h : Holding). h.startlong) s) q.startlong;
           startshort = rw (ap (λ (h : Holding). h.startshort) s) q.startshort;
-          opens = λ side. for_either _ side r.buy_opens_lem r.sell_opens_lem;
-          closes = λ side. for_either _ side r.buy_closes_lem r.sell_closes_lem;
+          opens = for_either _ r.buy_opens_lem r.sell_opens_lem;
+          closes = for_either _ r.buy_closes_lem r.sell_closes_lem;
         }
 
     trades_ok : TradesOk x c after (match_of x c).trades x.next x.nextstamp
@@ -240,11 +240,11 @@ module _ (x : Exchange) (k : WellFormed x) (c : ℕ) (there : c < length x.listi
 
 -- ---- an accepted change
 
-module _ (x : Exchange) (contract phase : ℕ) (e : first_of ((1 when not (phase_known phase)) ∷ phaseRefusals x contract phase) ≡ 0) (k : WellFormed x) where
+module _ (x : Exchange) (contract phase : ℕ) (e : first_of ((1 when not (phase_known phase)) ∷ phase_refusals x contract phase) ≡ 0) (k : WellFormed x) where
   pub passes : (place_of contract < length x.listings) × ((phase ≤ max_phase) × (length x.trades + length (match_of x (place_of contract)).trades ≤ max_trades))
-  unfolding phaseRefusals
+  unfolding phase_refusals
   passes =
-      let f = failed ((1 when not (phase_known phase)) ∷ phaseRefusals x contract phase) (omega arith) e in
+      let f = failed ((1 when not (phase_known phase)) ∷ phase_refusals x contract phase) (omega arith) e in
       (present contract x.listings f.1.0, (leb-true phase max_phase (not-false (phase_known phase) f.0), ltb-false _ _ f.1.1.1.0))
 
   pub phase_keeps : WellFormed (last_of x (phase_changed x (place_of contract) phase).stages)

@@ -6,7 +6,7 @@ use Rattle.laws.specs.Logic.{Bool, true, false, List, [], ◌∷◌, ◌++◌, m
 use Rattle.laws.specs.Numbers.{ℕ, ◌+◌, ◌<◌, ◌≤◌, arith, eqb-true, eqb-false, eqb, ltb, length, length-set, get_or-set_same, set-get_or}
 use Rattle.laws.specs.Choice.{pick, all_of, all_of_append, both_true}
 use Rattle.laws.specs.Sums.{sum_of_append, sum_of_at}
-use Rattle.rules.specs.Answers.{cancelRefusals, first_of, insertRefusals, listingOf, orderRefusals, pullRefusals, removalRefused, restingOrder, takesOrders}
+use Rattle.rules.specs.Answers.{cancel_refusals, first_of, insert_refusals, listing_of, order_refusals, pull_refusals, removal_refused, resting_order, takes_orders}
 use Rattle.rules.specs.Bounds.{continuous}
 use Rattle.rules.specs.Exchange.{Exchange, Listing, absent, account_at, listing_at, no_listing, place_of}
 use Rattle.rules.specs.Kinds.{code_of, decide, kind_of, last_of, step}
@@ -148,7 +148,7 @@ module _ (x : Exchange) (w : WellFormed x) (q : Offered) (p : Passes24 x q) wher
     its_own = first_satisfies (is_quote_of account) o os both e (used_once_lem o.number)
 
     cancel_code : code_of x (cancel_of q o) ≡ 0
-    unfolding code_of kind_of cancelRefusals pullRefusals first_of restingOrder removalRefused quote_left
+    unfolding code_of kind_of cancel_refusals pull_refusals first_of resting_order removal_refused quote_left
     cancel_code =
         rw (
           p.account,
@@ -224,8 +224,8 @@ same_entered x number quote o = sym (entered_unmarked x o number quote) ∙ ente
 
 -- on two states alike but for marks
 module _ (x y : Exchange) (e : without_marks x ≡ without_marks y) (o : NewOrder) where
-  same_refusals : orderRefusals x o ≡ orderRefusals y o
-  same_refusals = sym (refusals_unmarked x o) ∙ ap (λ (z : Exchange). orderRefusals z o) e ∙ refusals_unmarked y o
+  same_refusals : order_refusals x o ≡ order_refusals y o
+  same_refusals = sym (refusals_unmarked x o) ∙ ap (λ (z : Exchange). order_refusals z o) e ∙ refusals_unmarked y o
 
   same_results : (number quote : ℕ) → plain_entered (entered_of x number quote o) ≡ plain_entered (entered_of y number 0 o)
   same_results number quote = sym (entered_unmarked x o number quote) ∙ ap (λ (z : Exchange). entered_of z number 0 o) e ∙ entered_unmarked y o number 0
@@ -265,8 +265,8 @@ module _ (x : Exchange) (w : WellFormed x) (account contract lots buy sell : ℕ
   unfolding without_quote listing_at
   gone_open = rw (get_or-set_same x.listings spot (listing_without (is_quote_of (place_of account)) (listing_at x spot)) no_listing (present contract x.listings p.contract)) p.open'
 
-  buy_code : code_of gone (Insert (buy_of q)) ≡ first_of (orderRefusals gone (buy_of q))
-  unfolding half listingOf without_quote code_of kind_of insertRefusals first_of takesOrders
+  buy_code : code_of gone (Insert (buy_of q)) ≡ first_of (order_refusals gone (buy_of q))
+  unfolding half listing_of without_quote code_of kind_of insert_refusals first_of takes_orders
   buy_code = rw (p.account, gone_contract, gone_open) refl
 
   bought_account : absent account bought.accounts ≡ false
@@ -275,20 +275,20 @@ module _ (x : Exchange) (w : WellFormed x) (account contract lots buy sell : ℕ
 
   bought_contract : absent contract bought.listings ≡ false
   unfolding absent exchange_after half
-  bought_contract = rw (length-set gone.listings spot (listing_after (listingOf gone (buy_of q)) false (entered_of gone gone.next 0 (buy_of q)))) gone_contract
+  bought_contract = rw (length-set gone.listings spot (listing_after (listing_of gone (buy_of q)) false (entered_of gone gone.next 0 (buy_of q)))) gone_contract
 
   bought_open : eqb (listing_at bought spot).contract.phase continuous ≡ true
-  unfolding exchange_after half listing_at listing_after listingOf
+  unfolding exchange_after half listing_at listing_after listing_of
   bought_open =
-      rw (get_or-set_same gone.listings spot (listing_after (listingOf gone (buy_of q)) false (entered_of gone gone.next 0 (buy_of q))) no_listing gone_there) gone_open
+      rw (get_or-set_same gone.listings spot (listing_after (listing_of gone (buy_of q)) false (entered_of gone gone.next 0 (buy_of q))) no_listing gone_there) gone_open
 
-  sell_code : code_of bought (Insert (sell_of q)) ≡ first_of (orderRefusals (with_buy x q) (sell_of q))
-  unfolding half listingOf code_of kind_of insertRefusals first_of takesOrders
+  sell_code : code_of bought (Insert (sell_of q)) ≡ first_of (order_refusals (with_buy x q) (sell_of q))
+  unfolding half listing_of code_of kind_of insert_refusals first_of takes_orders
   sell_code = (rw (bought_account, bought_contract, bought_open) refl) ∙ ap first_of (sym (same_refusals (with_buy x q) bought bought_alike (sell_of q)))
 
   -- ---- the code
 
-  quote_code : code_of x (Quote account contract lots buy sell) ≡ first_of (orderRefusals gone (buy_of q) ++ orderRefusals (with_buy x q) (sell_of q))
+  quote_code : code_of x (Quote account contract lots buy sell) ≡ first_of (order_refusals gone (buy_of q) ++ order_refusals (with_buy x q) (sell_of q))
   unfolding code_of kind_of quote_refusals first_of
   quote_code = rw (p.account, p.contract, p.open', p.maker, p.below) refl
 
@@ -299,13 +299,13 @@ module _ (x : Exchange) (w : WellFormed x) (account contract lots buy sell : ℕ
       by_zero true e = sym (eqb-true n 0 e)
       by_zero false e = refl
 
-  inserts_code : first_code gone (inserts_of q) ≡ pick (eqb (first_of (orderRefusals gone (buy_of q))) 0) (first_of (orderRefusals (with_buy x q) (sell_of q))) (first_of (orderRefusals gone (buy_of q)))
+  inserts_code : first_code gone (inserts_of q) ≡ pick (eqb (first_of (order_refusals gone (buy_of q))) 0) (first_of (order_refusals (with_buy x q) (sell_of q))) (first_of (order_refusals gone (buy_of q)))
   unfolding first_code
-  inserts_code = rw buy_code (by_buy_code (eqb (first_of (orderRefusals gone (buy_of q))) 0) refl)
+  inserts_code = rw buy_code (by_buy_code (eqb (first_of (order_refusals gone (buy_of q))) 0) refl)
     where
-      by_buy_code : (b : Bool) → eqb (first_of (orderRefusals gone (buy_of q))) 0 ≡ b →
-          pick b (first_code (step gone (Insert (buy_of q))) (Insert (sell_of q) ∷ [])) (first_of (orderRefusals gone (buy_of q)))
-          ≡ pick b (first_of (orderRefusals (with_buy x q) (sell_of q))) (first_of (orderRefusals gone (buy_of q)))
+      by_buy_code : (b : Bool) → eqb (first_of (order_refusals gone (buy_of q))) 0 ≡ b →
+          pick b (first_code (step gone (Insert (buy_of q))) (Insert (sell_of q) ∷ [])) (first_of (order_refusals gone (buy_of q)))
+          ≡ pick b (first_of (order_refusals (with_buy x q) (sell_of q))) (first_of (order_refusals gone (buy_of q)))
       by_buy_code true e =
           ap (λ (y : Exchange). first_code y (Insert (sell_of q) ∷ [])) (insert_step gone (buy_of q) (buy_code ∙ eqb-true _ 0 e))
           ∙ none_or_it (code_of bought (Insert (sell_of q))) ∙ sell_code
@@ -314,10 +314,10 @@ module _ (x : Exchange) (w : WellFormed x) (account contract lots buy sell : ℕ
   -- ---- the two inserts, where both are accepted
 
   both_accepted : code_of x (Quote account contract lots buy sell) ≡ 0 → (code_of gone (Insert (buy_of q)) ≡ 0) × (code_of bought (Insert (sell_of q)) ≡ 0)
-  unfolding orderRefusals
+  unfolding order_refusals
   both_accepted e =
-      let k = first_zero (first_of (orderRefusals gone (buy_of q))) (first_of (orderRefusals (with_buy x q) (sell_of q)))
-      (sym (first_append (orderRefusals gone (buy_of q)) (orderRefusals (with_buy x q) (sell_of q)) (omega arith)) ∙ sym quote_code ∙ e) in
+      let k = first_zero (first_of (order_refusals gone (buy_of q))) (first_of (order_refusals (with_buy x q) (sell_of q)))
+      (sym (first_append (order_refusals gone (buy_of q)) (order_refusals (with_buy x q) (sell_of q)) (omega arith)) ∙ sym quote_code ∙ e) in
       (buy_code ∙ k.0, sell_code ∙ k.1)
     where
       first_zero : (m n : ℕ) → pick (eqb m 0) n m ≡ 0 → (m ≡ 0) × (n ≡ 0)
@@ -356,9 +356,9 @@ module _ (x : Exchange) (w : WellFormed x) (account contract lots buy sell : ℕ
   told d e = answer_of 0 gone.next (traded_lots d.trades + traded_lots e.trades) (d.rested + e.rested)
 
   same_code : code_of x (Quote account contract lots buy sell) ≡ first_code x (orders_of x q)
-  unfolding orderRefusals
+  unfolding order_refusals
   same_code =
-      quote_code ∙ first_append (orderRefusals gone (buy_of q)) (orderRefusals (with_buy x q) (sell_of q)) (omega arith) ∙ sym inserts_code
+      quote_code ∙ first_append (order_refusals gone (buy_of q)) (order_refusals (with_buy x q) (sell_of q)) (omega arith) ∙ sym inserts_code
       ∙ sym (cancels q (quote_left x q) x w p refl (inserts_of q)).0
 
   module _ (e : code_of x (Quote account contract lots buy sell) ≡ 0) where

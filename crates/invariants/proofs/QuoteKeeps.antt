@@ -5,7 +5,7 @@ use Rattle.laws.specs.Logic.{Bool, true, false, List, [], ◌∷◌, ◌≡◌, 
 use Rattle.laws.specs.Numbers.{ℕ, ◌+◌, ◌<◌, ◌≤◌, arith, eqb-true, not-false, eqb, length, length-set, get_or-set_same}
 use Rattle.laws.specs.Choice.{pick, for_either}
 use Rattle.laws.specs.Sums.{sum_of}
-use Rattle.rules.specs.Answers.{first_of, listingOf, orderRefusals, taker_of}
+use Rattle.rules.specs.Answers.{first_of, listing_of, order_refusals, taker_of}
 use Rattle.rules.specs.Exchange.{Exchange, Listing, account_at, listing_at, no_listing, own, place_of}
 use Rattle.rules.specs.Kinds.{last_of}
 use Rattle.rules.specs.Matching.{enter, rest_whole}
@@ -70,17 +70,17 @@ module _ (x : Exchange) (w : WellFormed x) (q : Offered) (account_there : place_
 
   pub none_marked : (sell : Bool) → quotes account (own sell (listing_at (without_quote x q) place)) ≡ 0
   none_marked sell = rw gone_listing
-      (for_either _ sell (none_left account (listing_at x place).buys) (none_left account (listing_at x place).sells))
+      (for_either (λ s. quotes account (own s left) ≡ 0) (none_left account (listing_at x place).buys) (none_left account (listing_at x place).sells) sell)
 
   -- ---- the buy, which passes its tests
 
-  module _ (is_maker : (account_at x.accounts (place_of q.account)).maker ≡ 1) (bought : Failed (orderRefusals (without_quote x q) (buy_of q))) where
+  module _ (is_maker : (account_at x.accounts (place_of q.account)).maker ≡ 1) (bought : Failed (order_refusals (without_quote x q) (buy_of q))) where
     pub buy_passes : Passes (without_quote x q) (without_quote x q).next (buy_of q)
     unfolding half
     buy_passes = order_passes (without_quote x q) (buy_of q) bought (rw gone_accounts account_there) gone_there
 
     pub buy_enters : Enterable (without_quote x q) (without_quote x q).next 1 ((without_quote x q).next + 1) (buy_of q)
-    unfolding half listingOf
+    unfolding half listing_of
     buy_enters = search (rules, gone_keeps, next_given, numbers_left, buy_passes, gone_accounts, none_marked) depth 12
 
     pub buy_keeps : WellFormed (with_buy x q)
@@ -108,10 +108,10 @@ module _ (x : Exchange) (w : WellFormed x) (q : Offered) (account_there : place_
     -- the buy may trade with the sells, and adds none
     pub buy_sells : (listing_at (with_buy x q) place).sells ≡ (buy_entered x q).opposite
     unfolding with_buy exchange_after listing_at listing_after half
-    buy_sells = rw (get_or-set_same (without_quote x q).listings place (listing_after (listingOf (without_quote x q) (buy_of q)) false (buy_entered x q)) no_listing gone_there)
+    buy_sells = rw (get_or-set_same (without_quote x q).listings place (listing_after (listing_of (without_quote x q) (buy_of q)) false (buy_entered x q)) no_listing gone_there)
 
     pub sells_unmarked : quotes account (buy_entered x q).opposite ≤ 0
-    unfolding quotes half listingOf rest_whole enter
+    unfolding quotes half listing_of rest_whole enter
     sells_unmarked =
         entered_either (without_quote x q) (without_quote x q).next 1 (buy_of q) (λ r. quotes account r.opposite ≤ 0)
         (λ a. omega (arith, none_marked true))
@@ -123,13 +123,13 @@ module _ (x : Exchange) (w : WellFormed x) (q : Offered) (account_there : place_
 
     -- ---- the sell, which passes its own
 
-    module _ (sold : Failed (orderRefusals (with_buy x q) (sell_of q))) where
+    module _ (sold : Failed (order_refusals (with_buy x q) (sell_of q))) where
       pub sell_passes : Passes (with_buy x q) (with_buy x q).next (sell_of q)
       unfolding half
       sell_passes = order_passes (with_buy x q) (sell_of q) sold (rw buy_accounts account_there) (rw buy_listings gone_there)
 
       pub sell_enters : Enterable (with_buy x q) (with_buy x q).next 1 ((with_buy x q).next + 1) (sell_of q)
-      unfolding half listingOf
+      unfolding half listing_of
       sell_enters =
           record {
             formed = buy_keeps;
@@ -158,7 +158,7 @@ pub record QuoteStages (x : Exchange) (q : Offered) : Type 0 where
 
 module _ (x : Exchange) (w : WellFormed x) (q : Offered) (e : first_of (quote_refusals x q) ≡ 0) where
   pub tests : Failed (quote_refusals x q)
-  unfolding quote_refusals orderRefusals
+  unfolding quote_refusals order_refusals
   tests = failed (quote_refusals x q) (omega arith) e
 
   pub holder : place_of q.account < length x.accounts
@@ -173,9 +173,9 @@ module _ (x : Exchange) (w : WellFormed x) (q : Offered) (e : first_of (quote_re
   unfolding quote_refusals
   maker = eqb-true (account_at x.accounts (place_of q.account)).maker 1 (not-false (eqb (account_at x.accounts (place_of q.account)).maker 1) tests.1.1.1.0)
 
-  pub codes : Failed (orderRefusals (without_quote x q) (buy_of q)) × Failed (orderRefusals (with_buy x q) (sell_of q))
+  pub codes : Failed (order_refusals (without_quote x q) (buy_of q)) × Failed (order_refusals (with_buy x q) (sell_of q))
   unfolding quote_refusals
-  codes = failed_both (orderRefusals (without_quote x q) (buy_of q)) (orderRefusals (with_buy x q) (sell_of q)) tests.1.1.1.1.1
+  codes = failed_both (order_refusals (without_quote x q) (buy_of q)) (order_refusals (with_buy x q) (sell_of q)) tests.1.1.1.1.1
 
   pub quote_stages : QuoteStages x q
   quote_stages =

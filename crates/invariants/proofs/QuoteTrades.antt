@@ -3,7 +3,7 @@
 use Rattle.laws.specs.Logic.{Bool, true, false, List, [], ◌∷◌, ◌++◌, append-nil, ◌⊎◌, ⊎_elim, inl, inr, ◌≡◌, refl, ap, ◌∙◌}
 use Rattle.laws.specs.Numbers.{ℕ, zero, suc, ◌+◌, ◌<◌, ◌≤◌, arith, eqb-true, leb-true, ltb-true, lt-leb, not-false, eqb, leb, ltb, length, get_or-set_same}
 use Rattle.laws.specs.Choice.{pick, by_test}
-use Rattle.rules.specs.Answers.{first_of, listingOf, taker_of}
+use Rattle.rules.specs.Answers.{first_of, listing_of, taker_of}
 use Rattle.rules.specs.Bounds.{auction, continuous, in_auction}
 use Rattle.rules.specs.Exchange.{Exchange, Listing, listing_at, no_listing, place_of, worse}
 use Rattle.rules.specs.Kinds.{code_of, kind_of, last_of, step}
@@ -99,7 +99,7 @@ module _ (x : Exchange) (w : WellFormed x) (q : Offered) (e : first_of (quote_re
   between = listing_at (with_buy x q) place
 
   between_is : between ≡ listing_after before false (buy_entered x q)
-  unfolding with_buy exchange_after listing_at half listingOf
+  unfolding with_buy exchange_after listing_at half listing_of
   between_is = get_or-set_same empty.listings place _ no_listing (gone_there x w q here there)
 
   abbrev seller : Taker
@@ -110,19 +110,19 @@ module _ (x : Exchange) (w : WellFormed x) (q : Offered) (e : first_of (quote_re
   no_auction_between = ap (λ (l : Listing). in_auction l.contract) between_is ∙ no_auction
 
   sell_trades : (sell_entered x q).trades ≡ (sweep seller q.lots between.contract.last between.buys).trades
-  unfolding half listingOf enter
+  unfolding half listing_of enter
   sell_trades = ap (λ (r : Entered). r.trades) (entered_elsewhere (with_buy x q) (with_buy x q).next 1 (sell_of q) no_auction_between)
 
   -- where the buy meets a sell, no buy stands above it
   met_below : (p : Order) (ps : List Order) → before.sells ≡ p ∷ ps → counterpart buyer p ≡ true → AtMost q.buy between.buys
-  unfolding taker_of half meets enter listing_after listingOf
+  unfolding taker_of half meets enter listing_after listing_of
   met_below p ps s c =
       rw (ap (λ (l : Listing). l.buys) between_is, ap (λ (r : Entered). r.own) (entered_elsewhere empty empty.next 1 (buy_of q) no_auction))
       (rested_at_most buyer q.buy _ before.buys refl
       (below_met q.buy before.buys p ps (rw s at apart) (leb-true p.price q.buy c)))
 
   one : ((buy_entered x q).trades ≡ []) ⊎ ((sell_entered x q).trades ≡ [])
-  unfolding taker_of half meets enter listingOf
+  unfolding taker_of half meets enter listing_of
   one =
       ⊎_elim (λ n. inl (ap (λ (r : Entered). r.trades) (entered_elsewhere empty empty.next 1 (buy_of q) no_auction) ∙ n))
       (λ m. inr (sell_trades

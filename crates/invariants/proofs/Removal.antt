@@ -4,7 +4,7 @@ use Rattle.laws.specs.Logic.{Bool, true, false, ◌&&◌, List, [], ◌∷◌, �
 use Rattle.laws.specs.Numbers.{ℕ, ◌+◌, ◌<◌, ◌≤◌, arith, eqb, length}
 use Rattle.laws.specs.Choice.{pick, all_of, all_of_imp, both_true, true_both}
 use Rattle.laws.specs.Sums.{sum_of}
-use Rattle.rules.specs.Answers.{first_of, cancelRefusals, pullRefusals}
+use Rattle.rules.specs.Answers.{first_of, cancel_refusals, pull_refusals}
 use Rattle.rules.specs.Exchange.{Exchange, Listing, listing_at, place_of, own, lots_where, resting}
 use Rattle.rules.specs.Kinds.{last_of}
 use Rattle.rules.specs.Step.{without, listing_without, has_number, is_of, removed, cancelled, pulled}
@@ -114,10 +114,10 @@ module _ (test : Order → Bool) where
         (λ sell. rw (own_without (listing_at x c) sell) (length_without test (own sell (listing_at x c))))
 
 module _ (x : Exchange) (account contract : ℕ) (operator : Bool) where
-  module _ (number : ℕ) (e : first_of (cancelRefusals x account contract operator number) ≡ 0) where
+  module _ (number : ℕ) (e : first_of (cancel_refusals x account contract operator number) ≡ 0) where
     pub cancel_there : place_of contract < length x.listings
-    unfolding cancelRefusals pullRefusals
-    cancel_there = present contract x.listings (failed (cancelRefusals x account contract operator number) (omega arith) e).1.0
+    unfolding cancel_refusals pull_refusals
+    cancel_there = present contract x.listings (failed (cancel_refusals x account contract operator number) (omega arith) e).1.0
 
     pub cancel_keeps : WellFormed x → WellFormed (last_of x (cancelled x (place_of contract) number).stages)
     unfolding cancelled
@@ -127,10 +127,10 @@ module _ (x : Exchange) (account contract : ℕ) (operator : Bool) where
     unfolding cancelled
     cancel_counted = removed_counted (has_number number) x (place_of contract) cancel_there number
 
-  module _ (e : first_of (pullRefusals x account contract operator) ≡ 0) where
+  module _ (e : first_of (pull_refusals x account contract operator) ≡ 0) where
     pub pull_there : place_of contract < length x.listings
-    unfolding pullRefusals
-    pull_there = present contract x.listings (failed (pullRefusals x account contract operator) (omega arith) e).1.0
+    unfolding pull_refusals
+    pull_there = present contract x.listings (failed (pull_refusals x account contract operator) (omega arith) e).1.0
 
     pub pull_keeps : WellFormed x → WellFormed (last_of x (pulled x (place_of account) (place_of contract)).stages)
     unfolding pulled

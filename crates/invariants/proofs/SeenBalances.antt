@@ -8,7 +8,7 @@ use Rattle.laws.specs.Numbers.{ℕ, zero, suc, ◌+◌, ◌*◌, eqb, ltb, lengt
 use Rattle.laws.specs.Choice.{pick, pick_same}
 use Rattle.laws.specs.Sums.{sum_to_ext}
 use Rattle.laws.specs.Tabulate.{tabulate}
-use Rattle.rules.specs.Answers.{Refusal, ◌when◌, amountRefused, notContinuous, removalRefused, stampsUsedUp, takesOrders, bookRefusals, cancelRefusals, conditionsRefused, depositRefusals, fieldsRefusals, fillableLots, holdingRefused, insertRefusals, leavesTooLittle, liftsTooHigh, listingOf, lotsRefused, mark, moneyRefused, namedRefusals, orderRefusals, ownQueue, ownerRefusals, restingOrder, phaseRefusals, pullRefusals, settleRefusals, taker_of, tradesNeeded, tradesRefused, withdrawRefusals}
+use Rattle.rules.specs.Answers.{Refusal, ◌when◌, amount_refused, not_continuous, removal_refused, stamps_used_up, takes_orders, book_refusals, cancel_refusals, conditions_refused, deposit_refusals, fields_refusals, fillable_lots, holding_refused, insert_refusals, leaves_too_little, lifts_too_high, listing_of, lots_refused, mark, money_refused, named_refusals, order_refusals, own_queue, owner_refusals, resting_order, phase_refusals, pull_refusals, settle_refusals, taker_of, trades_needed, trades_refused, withdraw_refusals}
 use Rattle.rules.specs.Auction.{match_of}
 use Rattle.rules.specs.Bounds.{max_balance}
 use Rattle.rules.specs.Change.{Asked, arriving, change_refusals, changed, gone, is_sell, loses_place, new_fields_refusals, old_order, place_kept, place_lost, reentered, reentry_refusals, unchanged}
@@ -115,11 +115,11 @@ module _ (seen : ℕ → Bool) where
   seen_traded x c l ts next nextstamp = rw (seen_trades seen x.accounts ts) refl
 
   seen_after : (x : Exchange) (o : NewOrder) (e : Entered) (next : ℕ) → exchange_after (state_seen seen x) o e next ≡ state_seen seen (exchange_after x o e next)
-  unfolding exchange_after listingOf listing_at state_seen
-  seen_after x o e next = seen_traded x (place_of o.contract) (listing_after (listingOf x o) o.sell e) e.trades next (x.nextstamp + 1)
+  unfolding exchange_after listing_of listing_at state_seen
+  seen_after x o e next = seen_traded x (place_of o.contract) (listing_after (listing_of x o) o.sell e) e.trades next (x.nextstamp + 1)
 
   seen_entered : (x : Exchange) (number quote : ℕ) (o : NewOrder) → entered_of (state_seen seen x) number quote o ≡ entered_of x number quote o
-  unfolding entered_of taker_of listingOf listing_at state_seen
+  unfolding entered_of taker_of listing_of listing_at state_seen
   seen_entered x number quote o = refl
 
   seen_paid : (x : Exchange) (a : ℕ) (balance : ℤ) → seen a ≡ true → paid (state_seen seen x) a balance ≡ state_seen seen (paid x a balance)
@@ -143,15 +143,15 @@ module _ (seen : ℕ → Bool) where
   -- ---- an order's refusals
 
   module _ (x : Exchange) (o : NewOrder) where
-    seen_held : holdingRefused (state_seen seen x) o ≡ holdingRefused x o
-    unfolding holdingRefused state_seen listingOf listing_at
+    seen_held : holding_refused (state_seen seen x) o ≡ holding_refused x o
+    unfolding holding_refused state_seen listing_of listing_at
     seen_held =
-        ap (λ (h : Holding). lotsRefused (listingOf x o).contract h (resting (mark o.close) (place_of o.account) (ownQueue x o)) o)
+        ap (λ (h : Holding). lots_refused (listing_of x o).contract h (resting (mark o.close) (place_of o.account) (own_queue x o)) o)
         (seen_holding seen x.accounts (place_of o.account) (place_of o.contract))
 
     module _ (e : seen (place_of o.account) ≡ true) where
-      seen_money : moneyRefused (state_seen seen x) o ≡ moneyRefused x o
-      unfolding moneyRefused
+      seen_money : money_refused (state_seen seen x) o ≡ money_refused x o
+      unfolding money_refused
       seen_money =
           ap₂ (λ (b : ℤ) (n : ℕ). not o.close && lt_z b (pos n)) balance
           (seen_charged_with x (place_of o.account) (place_of o.contract) o.sell o.lots)
@@ -159,11 +159,11 @@ module _ (seen : ℕ → Bool) where
           balance : (holder_at (state_seen seen x) (place_of o.account)).balance ≡ (holder_at x (place_of o.account)).balance
           balance = unfold state_seen in ap (λ (k : Account). k.balance) (seen_own seen x.accounts (place_of o.account) e)
 
-      seen_order : orderRefusals (state_seen seen x) o ≡ orderRefusals x o
-      unfolding orderRefusals state_seen fillableLots tradesRefused tradesNeeded taker_of listingOf listing_at
+      seen_order : order_refusals (state_seen seen x) o ≡ order_refusals x o
+      unfolding order_refusals state_seen fillable_lots trades_refused trades_needed taker_of listing_of listing_at
       seen_order =
           ap₂ (λ (h m : Bool).
-          fieldsRefusals (conditionsRefused (listingOf x o).contract o) (listingOf x o).contract o ++ ((8 when h) ∷ (9 when m) ∷ []) ++ bookRefusals x o)
+          fields_refusals (conditions_refused (listing_of x o).contract o) (listing_of x o).contract o ++ ((8 when h) ∷ (9 when m) ∷ []) ++ book_refusals x o)
           seen_held seen_money
 
   -- ---- settlement
@@ -226,7 +226,7 @@ module _ (seen : ℕ → Bool) where
     unfolding absent state_seen
     seen_absent account = ap (is_absent account) (seen_length seen x.accounts)
 
-    seen_named : (forbids : Contract → Bool) (account contract : ℕ) → namedRefusals (state_seen seen x) forbids account contract ≡ namedRefusals x forbids account contract
+    seen_named : (forbids : Contract → Bool) (account contract : ℕ) → named_refusals (state_seen seen x) forbids account contract ≡ named_refusals x forbids account contract
     unfolding state_seen listing_at
     seen_named forbids account contract =
         ap (λ (t : Bool). (2 when t) ∷ (3 when absent contract x.listings) ∷ (4 when forbids (listing_named x contract).contract) ∷ []) (seen_absent account)
@@ -236,10 +236,10 @@ module _ (seen : ℕ → Bool) where
     seen_balance account e = ap (λ (k : Account). k.balance) (seen_own seen x.accounts (place_of account) e)
 
     pub same_deposit : (account amount : ℕ) → seen (place_of account) ≡ true → SameSeen seen x (Deposit account amount)
-    unfolding kind_of deposited depositRefusals liftsTooHigh
+    unfolding kind_of deposited deposit_refusals lifts_too_high
     same_deposit account amount e = record {
       refusals =
-          ap₂ (λ (t : Bool) (b : ℤ). (2 when t) ∷ (16 when (amountRefused amount || lt_z (pos max_balance) (b +ℤ pos amount))) ∷ []) (seen_absent account) (seen_balance account e);
+          ap₂ (λ (t : Bool) (b : ℤ). (2 when t) ∷ (16 when (amount_refused amount || lt_z (pos max_balance) (b +ℤ pos amount))) ∷ []) (seen_absent account) (seen_balance account e);
       answer = refl;
       left =
           as_left (paid x (place_of account) ((holder_at x (place_of account)).balance +ℤ pos amount)) _
@@ -247,10 +247,10 @@ module _ (seen : ℕ → Bool) where
     }
 
     pub same_withdraw : (account amount : ℕ) → seen (place_of account) ≡ true → SameSeen seen x (Withdraw account amount)
-    unfolding kind_of withdrawn withdrawRefusals leavesTooLittle
+    unfolding kind_of withdrawn withdraw_refusals leaves_too_little
     same_withdraw account amount e = record {
       refusals =
-          ap₂ (λ (t u : Bool). (2 when t) ∷ (16 when amountRefused amount) ∷ (9 when u) ∷ []) (seen_absent account)
+          ap₂ (λ (t u : Bool). (2 when t) ∷ (16 when amount_refused amount) ∷ (9 when u) ∷ []) (seen_absent account)
           (ap₂ (λ (b : ℤ) (n : ℕ). lt_z (b -ℤ pos amount) (pos n)) (seen_balance account e) (all_charged (place_of account)));
       answer = refl;
       left =
@@ -262,9 +262,9 @@ module _ (seen : ℕ → Bool) where
         all_charged a = unfold state_seen in seen_charged seen x a (length x.listings)
 
     pub same_insert : (o : NewOrder) → seen (place_of o.account) ≡ true → SameSeen seen x (Insert o)
-    unfolding kind_of inserted insertRefusals state_seen entered_of taker_of listingOf listing_at
+    unfolding kind_of inserted insert_refusals state_seen entered_of taker_of listing_of listing_at
     same_insert o e = record {
-      refusals = ap₂ (λ (rs ss : List Refusal). rs ++ ss) (seen_named (λ c. not (takesOrders c)) o.account o.contract) (seen_order seen x o e);
+      refusals = ap₂ (λ (rs ss : List Refusal). rs ++ ss) (seen_named (λ c. not (takes_orders c)) o.account o.contract) (seen_order seen x o e);
       answer = refl;
       left = as_left (exchange_after x o (entered_of x x.next 0 o) (x.next + 1)) _ (seen_after seen x o (entered_of x x.next 0 o) (x.next + 1));
     }
@@ -276,24 +276,24 @@ module _ (seen : ℕ → Bool) where
     same_removal c test number = (refl, state_twice seen (last_of x (removed x c test number).stages))
 
     pub same_cancel : (account contract : ℕ) (operator : Bool) (number : ℕ) → SameSeen seen x (Cancel account contract operator number)
-    unfolding kind_of cancelled cancelRefusals state_seen listing_at
+    unfolding kind_of cancelled cancel_refusals state_seen listing_at
     same_cancel account contract operator number = record {
       refusals =
-          ap (λ (rs : List Refusal). rs ++ ownerRefusals (place_of account) (restingOrder (listing_named x contract) number)) (seen_named (λ c. removalRefused c operator) account contract);
+          ap (λ (rs : List Refusal). rs ++ owner_refusals (place_of account) (resting_order (listing_named x contract) number)) (seen_named (λ c. removal_refused c operator) account contract);
       answer = (same_removal (place_of contract) (has_number number) number).0;
       left = (same_removal (place_of contract) (has_number number) number).1;
     }
 
     pub same_pull : (account contract : ℕ) (operator : Bool) → SameSeen seen x (Pull account contract operator)
-    unfolding kind_of pulled pullRefusals
+    unfolding kind_of pulled pull_refusals
     same_pull account contract operator = record {
-      refusals = seen_named (λ c. removalRefused c operator) account contract;
+      refusals = seen_named (λ c. removal_refused c operator) account contract;
       answer = (same_removal (place_of contract) (is_of (place_of account)) 0).0;
       left = (same_removal (place_of contract) (is_of (place_of account)) 0).1;
     }
 
     pub same_phase : (contract phase : ℕ) → SameSeen seen x (Phase contract phase)
-    unfolding kind_of phase_changed phaseRefusals exchange_matched match_of state_seen listing_at
+    unfolding kind_of phase_changed phase_refusals exchange_matched match_of state_seen listing_at
     same_phase contract phase = record {
       refusals = refl;
       answer = refl;
@@ -301,7 +301,7 @@ module _ (seen : ℕ → Bool) where
     }
 
     pub same_settle : SameSeen seen x Settle
-    unfolding kind_of settled_all settleRefusals settled state_seen settled_listing settlement_price listing_at
+    unfolding kind_of settled_all settle_refusals settled state_seen settled_listing settlement_price listing_at
     same_settle = record {
       refusals = refl;
       answer = refl;
@@ -314,7 +314,7 @@ module _ (seen : ℕ → Bool) where
   -- ---- a quote
 
   marked_after : (x : Exchange) (o : NewOrder) → after_marked (state_seen seen x) o ≡ state_seen seen (after_marked x o)
-  unfolding state_seen entered_of taker_of listingOf listing_at
+  unfolding state_seen entered_of taker_of listing_of listing_at
   marked_after x o = seen_after seen x o (entered_marked x o) (x.next + 1)
 
   module _ (x : Exchange) (q : Offered) (e : seen (place_of q.account) ≡ true) where
@@ -331,20 +331,20 @@ module _ (seen : ℕ → Bool) where
     sell_seen = ap (λ (y : Exchange). after_marked y (sell_of q)) buy_seen ∙ marked_after (with_buy x q) (sell_of q)
 
     -- each of its orders, on a state that is the other as it is seen
-    order_as : (y z : Exchange) → y ≡ state_seen seen z → (sell : Bool) → orderRefusals y (half q sell) ≡ orderRefusals z (half q sell)
+    order_as : (y z : Exchange) → y ≡ state_seen seen z → (sell : Bool) → order_refusals y (half q sell) ≡ order_refusals z (half q sell)
     unfolding half
-    order_as y z same sell = ap (λ (u : Exchange). orderRefusals u (half q sell)) same ∙ seen_order seen z (half q sell) e
+    order_as y z same sell = ap (λ (u : Exchange). order_refusals u (half q sell)) same ∙ seen_order seen z (half q sell) e
 
     entered_as_lem : (y z : Exchange) → y ≡ state_seen seen z → (o : NewOrder) → entered_marked y o ≡ entered_marked z o
-    unfolding state_seen entered_of taker_of listingOf listing_at
+    unfolding state_seen entered_of taker_of listing_of listing_at
     entered_as_lem y z same o = ap (λ (u : Exchange). entered_marked u o) same
 
     pub quote_refusals_lem : quote_refusals (state_seen seen x) q ≡ quote_refusals x q
     unfolding quote_refusals
     quote_refusals_lem =
-        ap₂ (λ (rs : List Refusal) (m : ℕ). parts rs m (orderRefusals (without_quote (state_seen seen x) q) (buy_of q)) (orderRefusals (with_buy (state_seen seen x) q) (sell_of q)))
-        (seen_named x notContinuous q.account q.contract) maker
-        ∙ ap₂ (parts (namedRefusals x notContinuous q.account q.contract) (holder_at x (place_of q.account)).maker)
+        ap₂ (λ (rs : List Refusal) (m : ℕ). parts rs m (order_refusals (without_quote (state_seen seen x) q) (buy_of q)) (order_refusals (with_buy (state_seen seen x) q) (sell_of q)))
+        (seen_named x not_continuous q.account q.contract) maker
+        ∙ ap₂ (parts (named_refusals x not_continuous q.account q.contract) (holder_at x (place_of q.account)).maker)
         (order_as (without_quote (state_seen seen x) q) (without_quote x q) empty_seen false) (order_as (with_buy (state_seen seen x) q) (with_buy x q) buy_seen true)
       where
         parts : List Refusal → ℕ → List Refusal → List Refusal → List Refusal
@@ -386,16 +386,16 @@ module _ (seen : ℕ → Bool) where
     old_seen = refl
 
     reentry_seen : (y : Exchange) (o : NewOrder) → seen (place_of o.account) ≡ true → reentry_refusals (state_seen seen y) k.number o ≡ reentry_refusals y k.number o
-    unfolding tradesRefused tradesNeeded taker_of listingOf listing_at state_seen
+    unfolding trades_refused trades_needed taker_of listing_of listing_at state_seen
     reentry_seen y o own =
-        ap₂ (λ (h m : Bool). ((8 when h) ∷ (9 when m) ∷ []) ++ ((10 when stampsUsedUp y) ∷ (12 when tradesRefused y k.number o) ∷ [])) (seen_held seen y o) (seen_money seen y o own)
+        ap₂ (λ (h m : Bool). ((8 when h) ∷ (9 when m) ∷ []) ++ ((10 when stamps_used_up y) ∷ (12 when trades_refused y k.number o) ∷ [])) (seen_held seen y o) (seen_money seen y o own)
 
     pub change_refusals_lem : change_refusals shown k ≡ change_refusals x k
     unfolding change_refusals loses_place old_order gone arriving is_sell state_seen listing_at
     change_refusals_lem =
         ap₂ (λ (rs ss : List Refusal).
-        rs ++ ownerRefusals (place_of k.account) (restingOrder (listing_named x k.contract) k.number) ++ new_fields_refusals (listing_named x k.contract).contract k.lots k.price ++ pick (loses_place x k) ss [])
-        (seen_named x notContinuous k.account k.contract) (reentry_seen (gone x k) (arriving x k) e)
+        rs ++ owner_refusals (place_of k.account) (resting_order (listing_named x k.contract) k.number) ++ new_fields_refusals (listing_named x k.contract).contract k.lots k.price ++ pick (loses_place x k) ss [])
+        (seen_named x not_continuous k.account k.contract) (reentry_seen (gone x k) (arriving x k) e)
 
     -- the four that it may be
     abbrev either : Exchange → Bool → Bool → Bool → Effect
@@ -406,7 +406,7 @@ module _ (seen : ℕ → Bool) where
     SameEffect f g = ((done f).answer ≡ (done g).answer) × (state_seen seen (last_of shown f.stages) ≡ state_seen seen (last_of x g.stages))
 
     lost_same : SameEffect (place_lost shown k) (place_lost x k)
-    unfolding place_lost reentered entered_of taker_of listingOf listing_at gone arriving is_sell old_order state_seen
+    unfolding place_lost reentered entered_of taker_of listing_of listing_at gone arriving is_sell old_order state_seen
     lost_same = (
       refl,
       as_left (exchange_after (gone x k) (arriving x k) (reentered x k) x.next) _ (seen_after seen (gone x k) (arriving x k) (reentered x k) x.next),

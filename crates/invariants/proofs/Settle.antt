@@ -5,7 +5,7 @@ use Rattle.laws.specs.Numbers.{ℕ, ◌+◌, ◌<◌, ◌≤◌, arith, eqb-true
 use Rattle.laws.specs.Choice.{pick, all_of, all_of_imp, both_true, true_both}
 use Rattle.laws.specs.Sums.{sum_of}
 use Rattle.laws.specs.Chains.{all_passed, join}
-use Rattle.rules.specs.Answers.{first_of, settleRefusals}
+use Rattle.rules.specs.Answers.{first_of, settle_refusals}
 use Rattle.rules.specs.Bounds.{within, tick_multiple, terms_in_range, max_price, max_settlements, pre_open, max_phase, phase_known}
 use Rattle.rules.specs.Exchange.{Exchange, listing_at, account_at, holding_at, own, no_holding}
 use Rattle.rules.specs.Holdings.{start_holding, start_account}
@@ -168,10 +168,10 @@ module _ (x : Exchange) (k : WellFormed x) (n : Counted x) where
 
 -- ---- the step
 
-module _ (x : Exchange) (e : first_of (settleRefusals x) ≡ 0) where
+module _ (x : Exchange) (e : first_of (settle_refusals x) ≡ 0) where
   pub settle_keeps : WellFormed x → Counted x → WellFormed (last_of x (settled_all x).stages)
-  unfolding settleRefusals settled_all
-  settle_keeps k n = settled_keeps x k n (leb-false max_settlements x.settlements (failed (settleRefusals x) (omega arith) e).1.0)
+  unfolding settle_refusals settled_all
+  settle_keeps k n = settled_keeps x k n (leb-false max_settlements x.settlements (failed (settle_refusals x) (omega arith) e).1.0)
 
   pub settle_counted : WellFormed x → Counted x → Counted (last_of x (settled_all x).stages)
   unfolding settled_all

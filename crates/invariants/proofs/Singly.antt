@@ -4,7 +4,7 @@ use Rattle.laws.specs.Logic.{Bool, true, false, not, ◌&&◌, true≢false, Lis
 use Rattle.laws.specs.Numbers.{ℕ, ◌+◌, ◌≤◌, arith, eqb-true, eqb-false, eq-eqb, ne_eqb, eqb, length}
 use Rattle.laws.specs.Choice.{pick, all_of, both_true, true_both}
 use Rattle.laws.specs.Sums.{sum_of}
-use Rattle.rules.specs.Answers.{noSuchOrder, numbered, ofAnother}
+use Rattle.rules.specs.Answers.{no_such_order, numbered, of_another}
 use Rattle.rules.specs.Step.{has_number, without}
 use Rattle.rules.specs.WellFormed.{number_of}
 use Rattle.rules.specs.declared.Order.{Order}
@@ -127,12 +127,12 @@ module _ (test : Order → Bool) where
         by_number_and_test false false e f ih = rw f (ap (λ (l : List Order). o ∷ l) ih)
 
     -- an order with the number is there
-    pub used_found : (os : List Order) → 1 ≤ uses number_of n os → noSuchOrder (numbered n os) ≡ false
-    unfolding uses sum_of numbered noSuchOrder
+    pub used_found : (os : List Order) → 1 ≤ uses number_of n os → no_such_order (numbered n os) ≡ false
+    unfolding uses sum_of numbered no_such_order
     used_found [] h = absurd (omega arith)
     used_found (o ∷ os) h = by_number (eqb o.number n) refl (used_found os)
       where
-        by_number : (b : Bool) → eqb o.number n ≡ b → (1 ≤ uses number_of n os → noSuchOrder (numbered n os) ≡ false) → noSuchOrder (pick b (o ∷ []) (numbered n os)) ≡ false
+        by_number : (b : Bool) → eqb o.number n ≡ b → (1 ≤ uses number_of n os → no_such_order (numbered n os) ≡ false) → no_such_order (pick b (o ∷ []) (numbered n os)) ≡ false
         by_number true e ih = refl
         by_number false e ih =
             let z : eqb n o.number ≡ false = ne_eqb n o.number (λ k. eqb-false o.number n e (sym k)) in
@@ -140,15 +140,15 @@ module _ (test : Order → Bool) where
             ih (omega arith)
 
     -- and it is the account's, if the test says so
-    pub own_found : (a : ℕ) → ((o : Order) → test o ≡ true → eqb o.account a ≡ true) → (os : List Order) → all_of satisfies os ≡ true → ofAnother a (numbered n os) ≡ false
-    unfolding numbered ofAnother all_of
+    pub own_found : (a : ℕ) → ((o : Order) → test o ≡ true → eqb o.account a ≡ true) → (os : List Order) → all_of satisfies os ≡ true → of_another a (numbered n os) ≡ false
+    unfolding numbered of_another all_of
     own_found a says [] h = refl
     own_found a says (o ∷ os) h = by_number (eqb o.number n) refl (own_found a says os q.1)
       where
         q : (satisfies o ≡ true) × (all_of satisfies os ≡ true)
         q = both_true (satisfies o) (all_of satisfies os) h
 
-        by_number : (b : Bool) → eqb o.number n ≡ b → ofAnother a (numbered n os) ≡ false → ofAnother a (pick b (o ∷ []) (numbered n os)) ≡ false
+        by_number : (b : Bool) → eqb o.number n ≡ b → of_another a (numbered n os) ≡ false → of_another a (pick b (o ∷ []) (numbered n os)) ≡ false
         by_number true e ih =
             let z : eqb n o.number ≡ true = eq-eqb n o.number (sym (eqb-true o.number n e)) in
             let s : test o ≡ true = rw z at q.0 in

@@ -5,7 +5,7 @@ use Rattle.laws.specs.Logic.{Bool, true, false, ◌&&◌, ◌||◌, false≢true
 use Rattle.laws.specs.Numbers.{ℕ, zero, suc, ◌+◌, ◌≤◌, le_refl, arith, eqb-true, eq-eqb, eqb, ltb, length, get_or}
 use Rattle.laws.specs.Choice.{all_of, all_of_imp, both_true, true_both, true_either, either_true, for_either}
 use Rattle.laws.specs.Tabulate.{tabulate}
-use Rattle.rules.specs.Answers.{numbersUsedUp, stampsUsedUp, taker_of}
+use Rattle.rules.specs.Answers.{numbers_used_up, stamps_used_up, taker_of}
 use Rattle.rules.specs.Auction.{match_of}
 use Rattle.rules.specs.Change.{Asked, arriving, changed, gone, place_kept, place_lost, reentered, unchanged}
 use Rattle.rules.specs.Exchange.{Exchange, Listing, listing_at, no_listing, own, place_of, worse}
@@ -204,7 +204,7 @@ settled_stamped x =
     record {
       next = refl;
       orders = λ c sell. rw (settled_none (length x.listings) (settled_listing x) c sell (λ i.
-          (for_either _ sell refl refl))) refl;
+          (for_either (λ s. own s (settled_listing x i) ≡ []) refl refl sell))) refl;
     }
 
 -- where each order enters with one number for both, it stays so
@@ -217,8 +217,8 @@ pub ahead_by_number : (sell : Bool) (o p : Order) → stamp_is_number o ≡ true
 unfolding ahead
 ahead_by_number sell o p e f = rw (eqb-true o.stamp o.number e, eqb-true p.stamp p.number f) refl
 
-pub used_up_by_number : (x : Exchange) → StampsAsNumbers x → (numbersUsedUp x || stampsUsedUp x) ≡ numbersUsedUp x
-used_up_by_number x h = rw h.next (same (numbersUsedUp x))
+pub used_up_by_number : (x : Exchange) → StampsAsNumbers x → (numbers_used_up x || stamps_used_up x) ≡ numbers_used_up x
+used_up_by_number x h = rw h.next (same (numbers_used_up x))
   where
     same : (b : Bool) → (b || b) ≡ b
     same true = refl

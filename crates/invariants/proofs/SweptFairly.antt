@@ -3,7 +3,7 @@ use Rattle.laws.specs.Logic.{Bool, true, false, not, true≢false, List, [], ◌
 use Rattle.laws.specs.Numbers.{ℕ, ◌+◌, ◌-◌, ◌<◌, ◌≤◌, min, arith, eq-eqb, eqb}
 use Rattle.laws.specs.Choice.{all_of, pick, true_both}
 use Rattle.laws.specs.Sums.{sum_of}
-use Rattle.rules.specs.Answers.{isLimit}
+use Rattle.rules.specs.Answers.{is_limit}
 use Rattle.rules.specs.Bounds.{on_tick}
 use Rattle.rules.specs.Exchange.{best_price, lots_where}
 use Rattle.rules.specs.Fairness.{AtLimitOrBetter, LotsAccounted, NothingBetterLeft, PriceThenTime, lots_numbered, lots_traded, order_on}
@@ -142,11 +142,11 @@ module _ (t : Taker) where
 
   -- ---- 10. at its limit or better
 
-  unlimited_price : (o : Order) (left last : ℕ) → isLimit t.condition ≡ false → (trade_with t o left last).price ≡ o.price
+  unlimited_price : (o : Order) (left last : ℕ) → is_limit t.condition ≡ false → (trade_with t o left last).price ≡ o.price
   unfolding trade_price
   unlimited_price o left last e = trade_price_lem t o left last ∙ by_condition t.condition e
     where
-      by_condition : (condition : PriceCondition) → isLimit condition ≡ false → trade_price t.method condition o.price last ≡ o.price
+      by_condition : (condition : PriceCondition) → is_limit condition ≡ false → trade_price t.method condition o.price last ≡ o.price
       by_condition (Limit limit) e = absurd (true≢false e)
       by_condition Market e = refl
       by_condition Best e = refl
@@ -155,7 +155,7 @@ module _ (t : Taker) where
   unfolding meets
   best_price_lem e o left last m =
       let m' : meets Best t.sell t.best o.price ≡ true = rw e at m in
-      rw (unlimited_price o left last (ap isLimit e)) m'
+      rw (unlimited_price o left last (ap is_limit e)) m'
 
   pub swept_limits : (tick : ℕ) → 1 ≤ tick → RoundsTo tick t.method → ((limit : ℕ) → t.condition ≡ Limit limit → on_tick tick limit ≡ true)
       → (lots last : ℕ) (queue : List Order) → all_of (λ o. on_tick tick o.price) queue ≡ true → t.best ≡ best_price queue

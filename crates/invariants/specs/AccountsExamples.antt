@@ -3,7 +3,7 @@
 use Rattle.std.specs.Prelude.{Bool, true, false, List, [], ◌∷◌, ◌≡◌, refl, ℕ, ℤ, pos, negsuc, get_or}
 use Rattle.laws.specs.Choice.{all_of}
 use Rattle.laws.specs.Sums.{sum_of}
-use Rattle.rules.specs.Answers.{amountRefused, cancelRefusals, conditionsRefused, fillableLots, first_of, holdingRefused, insertRefusals, leavesTooLittle, listingOf, lotsRefused, moneyRefused, noSuchOrder, numbered, ofAnother, orderRefusals, priceRefusedBy, restingOrder, taker_of, takesOrders, tradesAgainst, tradesNeeded, tradesRefused, withdrawRefusals}
+use Rattle.rules.specs.Answers.{amount_refused, cancel_refusals, conditions_refused, fillable_lots, first_of, holding_refused, insert_refusals, leaves_too_little, listing_of, lots_refused, money_refused, no_such_order, numbered, of_another, order_refusals, price_refused_by, resting_order, taker_of, takes_orders, trades_against, trades_needed, trades_refused, withdraw_refusals}
 use Rattle.rules.specs.Bounds.{allowed_today, continuous, day_high, day_low, on_tick}
 use Rattle.rules.specs.Change.{arriving, change_refusals, changed, gone, is_sell, loses_place, old_order, place_lost, reentered}
 use Rattle.rules.specs.Examples.{Row, ◌gives◌, all_right}
@@ -108,5 +108,5 @@ table =
     ∷ []
 
 pub accounts_examples : all_right table ≡ true
-unfolding all_right table contract order held account x insert buy sell long short poor rich absent account_at after_leg all_of allowed_today amountRefused arriving best_price book_leg book_trade book_trades cancelRefusals change_refusals changed charge_of charged_lots charged_to code_of conditionsRefused day_high day_low decide enter entered_of exchange_after fillable fillableLots first_of gone half holding_at holdingRefused insertRefusals inserted is_sell kind_of last_price leavesTooLittle listing_after listing_at listingOf loses_place lotsRefused lots_where meets method_of middle moneyRefused noSuchOrder numbered ofAnother old_order on_tick orderRefusals paid paired_price place_lost priceRefusedBy quote_refusals quoted reentered remainder rest_in rest_lots rest_whole rested_lots resting restingOrder stays step sum_of sweep taker_of takesOrders trade_price trade_with traded_lots tradesAgainst tradesNeeded tradesRefused with_buy with_sell withdrawRefusals withdrawn without without_quote
+unfolding all_right table contract order held account x insert buy sell long short poor rich absent account_at after_leg all_of allowed_today amount_refused arriving best_price book_leg book_trade book_trades cancel_refusals change_refusals changed charge_of charged_lots charged_to code_of conditions_refused day_high day_low decide enter entered_of exchange_after fillable fillable_lots first_of gone half holding_at holding_refused insert_refusals inserted is_sell kind_of last_price leaves_too_little listing_after listing_at listing_of loses_place lots_refused lots_where meets method_of middle money_refused no_such_order numbered of_another old_order on_tick order_refusals paid paired_price place_lost price_refused_by quote_refusals quoted reentered remainder rest_in rest_lots rest_whole rested_lots resting resting_order stays step sum_of sweep taker_of takes_orders trade_price trade_with traded_lots trades_against trades_needed trades_refused with_buy with_sell withdraw_refusals withdrawn without without_quote
 accounts_examples = refl

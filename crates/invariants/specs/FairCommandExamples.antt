@@ -2,7 +2,7 @@
 use Rattle.std.specs.Prelude.{true, false, List, [], ◌∷◌, ◌≡◌, refl, ℕ, pos, length}
 use Rattle.laws.specs.Choice.{pick}
 use Rattle.laws.specs.Sums.{sum_of}
-use Rattle.rules.specs.Answers.{dayLimitOrder, listingOf, noSuchOrder, numbered, restingOrder, taker_of}
+use Rattle.rules.specs.Answers.{day_limit_order, listing_of, no_such_order, numbered, resting_order, taker_of}
 use Rattle.rules.specs.Bounds.{continuous}
 use Rattle.rules.specs.Change.{Asked, arriving, asked, gone, is_sell, loses_place, old_order}
 use Rattle.rules.specs.Examples.{Row, ◌gives◌, all_right}
@@ -36,7 +36,7 @@ book =
 
 -- 7 are bought with a limit of 105; 5 are quoted at 99 and 100; the bid for 4 goes to 105
 buy : Entering
-buy = entering_next book 0 (dayLimitOrder 1 1 false false 7 105)
+buy = entering_next book 0 (day_limit_order 1 1 false false 7 105)
 
 quote : Offered
 quote = offered 1 1 5 99 100
@@ -65,5 +65,5 @@ table =
     ∷ []
 
 pub fair_command_examples : all_right table ≡ true
-unfolding all_right table order book buy quote raise account_at after_leg arriving best_price book_leg book_trade book_trades enter entered_of exchange_after gone half holding_at is_sell last_price listing_after listing_at listingOf loses_place lots_where meets method_of middle noSuchOrder numbered old_order paired_price remainder rest_in rest_lots rested_lots restingOrder stays sum_of sweep taker_of trade_price trade_with traded_lots with_buy without without_quote
+unfolding all_right table order book buy quote raise account_at after_leg arriving best_price book_leg book_trade book_trades enter entered_of exchange_after gone half holding_at is_sell last_price listing_after listing_at listing_of loses_place lots_where meets method_of middle no_such_order numbered old_order paired_price remainder rest_in rest_lots rested_lots resting_order stays sum_of sweep taker_of trade_price trade_with traded_lots with_buy without without_quote
 fair_command_examples = refl

@@ -46,9 +46,9 @@ by_test true f g = f refl
 by_test false f g = g refl
 
 -- what holds at false and at true holds at each
-pub for_either : (P : Bool → Type 0) (b : Bool) → P false → P true → P b
-for_either P false f t = f
-for_either P true f t = t
+pub for_either : (P : Bool → Type 0) → P false → P true → (b : Bool) → P b
+for_either P f t false = f
+for_either P f t true = t
 
 -- what holds of either, under its test, holds of the choice
 pub pick_either : {A : Type 0} (P : A → Type 0) (t : Bool) (x y : A) → (t ≡ true → P x) → (t ≡ false → P y) → P (pick t x y)

@@ -96,7 +96,7 @@ module _ {t : Taker} {lots price : ℕ} {day : Bool} {last : ℕ} {held : List A
           made = swept.made;
           last = swept.last;
           accounts = swept.accounts;
-          own_queue = eq ∙ ap (λ (k : ℕ). put_queue owns k own (rest_lots t price rested (queue_in owns c own))) ec ∙ ap (put_queue owns t.contract own) own_is;
-          opposite_queue = eo ∙ rw ec (front_dropped opposites opposites₁ t.contract opposite f.filled s.rest ready.sweeps.queue swept.filled swept.queue);
+          own_queue_lem = eq ∙ ap (λ (k : ℕ). put_queue owns k own (rest_lots t price rested (queue_in owns c own))) ec ∙ ap (put_queue owns t.contract own) own_is;
+          opposite_queue_lem = eo ∙ rw ec (front_dropped opposites opposites₁ t.contract opposite f.filled s.rest ready.sweeps.queue swept.filled swept.queue);
           trades = swept.trades;
         }

@@ -27,6 +27,6 @@ pub record EntryIs
   pub made : r.made ≡ before + length e.trades
   pub last : r.last ≡ last_price last₀ e.trades
   pub accounts : r.accounts ≡ book_trades held e.trades
-  pub own_queue : owns' ≡ put_queue owns c own e.own
-  pub opposite_queue : opposites' ≡ put_queue opposites c opposite e.opposite
+  pub own_queue_lem : owns' ≡ put_queue owns c own e.own
+  pub opposite_queue_lem : opposites' ≡ put_queue opposites c opposite e.opposite
   pub trades : area' ≡ store trade_words area (trade_stride * before) e.trades

@@ -10,7 +10,7 @@ use borrow.Author.Tests.{eqb-true, le-ltb, ne_eqb}
 use lib.Dec.{eqb, ltb}
 use lib.ListN.{length, get_or}
 use Rattle.laws.specs.Choice.{pick}
-use Rattle.rules.specs.Answers.{changeListed, first_of, phaseRefusals}
+use Rattle.rules.specs.Answers.{change_listed, first_of, phase_refusals}
 use Rattle.rules.specs.Auction.{match_of, unmatched}
 use Rattle.rules.specs.Bounds.{in_auction, max_trades, phase_known}
 use Rattle.rules.specs.Exchange as exchange
@@ -37,8 +37,8 @@ use Rattle.engine.proofs.Tests.{place_below}
 -- ---- the changes listed, by the state they start from
 
 module _ (to : ℕ) where
-  pub from_pre_open : changeListed 0 to ≡ (eqb to 4 || (eqb to 1 || eqb to 3))
-  unfolding changeListed
+  pub from_pre_open : change_listed 0 to ≡ (eqb to 4 || (eqb to 1 || eqb to 3))
+  unfolding change_listed
   from_pre_open = by_phase (eqb to 1) (eqb to 3) (eqb to 4)
     where
       by_phase : (a b c : Bool) → (a || b || false || false || false || false || c || false) ≡ (c || (a || b))
@@ -49,8 +49,8 @@ module _ (to : ℕ) where
       by_phase false false true = refl
       by_phase false false false = refl
 
-  pub from_continuous : changeListed 1 to ≡ (eqb to 2 || eqb to 3)
-  unfolding changeListed
+  pub from_continuous : change_listed 1 to ≡ (eqb to 2 || eqb to 3)
+  unfolding change_listed
   from_continuous = by_phase (eqb to 2) (eqb to 3)
     where
       by_phase : (a b : Bool) → (false || false || a || false || b || false || false || false) ≡ (a || b)
@@ -58,8 +58,8 @@ module _ (to : ℕ) where
       by_phase false true = refl
       by_phase false false = refl
 
-  pub from_no_trading : changeListed 2 to ≡ (eqb to 1 || eqb to 3)
-  unfolding changeListed
+  pub from_no_trading : change_listed 2 to ≡ (eqb to 1 || eqb to 3)
+  unfolding change_listed
   from_no_trading = by_phase (eqb to 1) (eqb to 3)
     where
       by_phase : (a b : Bool) → (false || false || false || a || false || b || false || false) ≡ (a || b)
@@ -67,12 +67,12 @@ module _ (to : ℕ) where
       by_phase false true = refl
       by_phase false false = refl
 
-  pub from_auction : changeListed 4 to ≡ eqb to 1
-  unfolding changeListed
+  pub from_auction : change_listed 4 to ≡ eqb to 1
+  unfolding change_listed
   from_auction = refl
 
-  pub from_other : (from : ℕ) → from ≢ 0 → from ≢ 1 → from ≢ 2 → from ≢ 4 → changeListed from to ≡ false
-  unfolding changeListed
+  pub from_other : (from : ℕ) → from ≢ 0 → from ≢ 1 → from ≢ 2 → from ≢ 4 → change_listed from to ≡ false
+  unfolding change_listed
   from_other from p q r u = simp (ne_eqb from 0 p, ne_eqb from 1 q, ne_eqb from 2 r, ne_eqb from 4 u)
 
 -- ---- a change that makes a match
@@ -93,7 +93,7 @@ module _ (s : State) (contract phase : ℕ) where
 
   -- a contract in auction whose change is listed makes one
   match_listed : is_absent contract s.contractcount ≡ false → in_auction (get_or s.contracts (contract - 1) no_contract) ≡ true
-      → changeListed (get_or s.contracts (contract - 1) no_contract).phase phase ≡ true → is_match s contract phase ≡ true
+      → change_listed (get_or s.contracts (contract - 1) no_contract).phase phase ≡ true → is_match s contract phase ≡ true
   unfolding is_match
   match_listed h in_auction_lem listed =
       let e : (get_or s.contracts (contract - 1) no_contract).phase ≡ 4 = eqb-true _ _ in_auction_lem in
@@ -123,9 +123,9 @@ module _ {s : State} {buys sells trades : List ℕ} (w : WellFormedState s buys 
   pub phase_code : code_of (exchange_of m) (Phase contract phase)
       ≡ pick (not (phase_known phase)) 1
       (pick (is_absent contract s.contractcount) 3
-      (pick (not (changeListed (listing_at (exchange_of m) (contract - 1)).contract.phase phase)) 17
+      (pick (not (change_listed (listing_at (exchange_of m) (contract - 1)).contract.phase phase)) 17
       (pick (ltb max_trades (s.tradecount + length (match_of (exchange_of m) (contract - 1)).trades)) 12 0)))
-  unfolding code_of kind_of phaseRefusals first_of
+  unfolding code_of kind_of phase_refusals first_of
   phase_code = rw (no_contract_lem m f contract, trades_count m f)
 
   phase_refused : (code : ℕ) {d : Decision} → 0 < code → code_of (exchange_of m) (Phase contract phase) ≡ code → d ≡ refused_by code → ChangeIs d
@@ -145,14 +145,14 @@ module _ {s : State} {buys sells trades : List ℕ} (w : WellFormedState s buys 
     unfolding listing_in
     terms_are = rw is (ap (λ (l : exchange.Listing). l.contract) (listing_at_lem m f (contract - 1) here))
 
-    module _ {l : Listed} (stands : l ≡ listed_in s place) {t : Bool} (tested : t ≡ changeListed l.terms.phase phase) where
-      listed_is : changeListed (get_or s.contracts place no_contract).phase phase ≡ t
+    module _ {l : Listed} (stands : l ≡ listed_in s place) {t : Bool} (tested : t ≡ change_listed l.terms.phase phase) where
+      listed_is : change_listed (get_or s.contracts place no_contract).phase phase ≡ t
       listed_is = sym (rw stands at tested)
 
       pub phase_unlisted : {d : Decision} → t ≡ false → d ≡ refused_by 17 → ChangeIs d
       phase_unlisted h = phase_refused 17 (omega arith) (rw (phase_code, known, present, terms_are, listed_is, h))
 
-    module _ (listed : changeListed (get_or s.contracts place no_contract).phase phase ≡ true) (no : is_match s contract phase ≡ false) where
+    module _ (listed : change_listed (get_or s.contracts place no_contract).phase phase ≡ true) (no : is_match s contract phase ≡ false) where
       other : in_auction (listing_at (exchange_of m) (contract - 1)).contract ≡ false
       other = cases (in_auction (listing_at (exchange_of m) (contract - 1)).contract) refl
         where
@@ -175,10 +175,10 @@ module _ {s : State} {buys sells trades : List ℕ} (w : WellFormedState s buys 
       unfolding kind_of phase_changed
       no_lots = rw (no_match (exchange_of m) (contract - 1) other, traded_nil)
 
-    pub phase_accepted : {l : Listed} (stands : l ≡ listed_in s place) {t : Bool} (tested : t ≡ changeListed l.terms.phase phase) {d : Decision} → t ≡ true
+    pub phase_accepted : {l : Listed} (stands : l ≡ listed_in s place) {t : Bool} (tested : t ≡ change_listed l.terms.phase phase) {d : Decision} → t ≡ true
         → is_match s contract phase ≡ false → d ≡ accepted_by (Listing (phased_as l phase)) 0 0 → ChangeIs d
     phase_accepted stands tested h none e =
-        let listed : changeListed (get_or s.contracts place no_contract).phase phase ≡ true = listed_is stands tested ∙ h in
+        let listed : change_listed (get_or s.contracts place no_contract).phase phase ≡ true = listed_is stands tested ∙ h in
         phased_decided (omega (arith, is, here, f.contracts_high))
         (acceptance s buys sells trades (Phase contract phase) (accepted_code listed none) (no_lots listed none) (phase_lies listed none) refl)
         (e ∙ ap (λ (v : Listed). accepted_by (Listing (phased_as v phase)) 0 0) stands)

@@ -9,7 +9,7 @@ use borrow.Author.Tests.{eqb-true, le-leb, le-ltb, lt-ltb, not-true}
 use lib.Dec.{eqb, leb, ltb}
 use lib.ListN.{length, get_or}
 use Rattle.laws.specs.Choice.{all_of, all_of_imp, both_true, pick, pick_true, true_both}
-use Rattle.rules.specs.Answers.{changeListed}
+use Rattle.rules.specs.Answers.{change_listed}
 use Rattle.rules.specs.Auction.{Matched, auction_match, match_of, unmatched}
 use Rattle.rules.specs.Bounds.{in_auction, max_lots, max_trades, auction, continuous}
 use Rattle.rules.specs.Exchange.{Exchange, Listing, account_at, holding_at, listing_at, no_contract, own, place_of, is_absent}
@@ -120,7 +120,7 @@ module _ {s : State} {buys sells trades : List ℕ} (w : WellFormedState s buys 
 
   -- ---- the code
 
-  listed : changeListed (listing_at x c).contract.phase continuous ≡ true
+  listed : change_listed (listing_at x c).contract.phase continuous ≡ true
   unfolding listing_in
   listed = rw (listing_is, eqb-true terms.phase auction parts.1) (from_auction continuous)
 

@@ -4,7 +4,7 @@
 
 ghost use Rattle.std.specs.Prelude.{◌≡◌, true, ◌≤◌, ◌<◌};
 ghost use Rattle.rules.specs.Bounds.{max_contracts, phase_known, continuous};
-ghost use Rattle.rules.specs.Answers.{changeListed};
+ghost use Rattle.rules.specs.Answers.{change_listed};
 ghost use Rattle.rules.specs.Memory.{memory, WellFormedState};
 ghost use Rattle.rules.specs.declared.Command.TheVariants.{Phase};
 ghost use Rattle.engine.specs.Decision.{DecisionIs, CarriedOut, listed_in};
@@ -19,7 +19,7 @@ use rules::{AUCTION, Answer, CLOSED, CONTINUOUS, MAX_PHASE, NO_TRADING, PRE_OPEN
 
 // 0 to 1, 0 to 3, 1 to 2, 2 to 1, 1 to 3, 2 to 3, 0 to 4, 4 to 1.
 fn is_listed(from: u32, to: u32) -> bool
-    ensures { result ≡ changeListed from to }
+    ensures { result ≡ change_listed from to }
 {
     if from == PRE_OPEN {
         if to == AUCTION {

@@ -3,7 +3,7 @@
 use Rattle.laws.specs.Logic.{true, false, not, List, ◌≡◌, sym, ap, ◌∙◌}
 use Rattle.laws.specs.Numbers.{ℕ, ◌-◌, ne_eqb, get_or}
 use Rattle.laws.specs.Choice.{pick}
-use Rattle.rules.specs.Answers.{dayWithoutLimit, fillableLots, first_of, listingOf, taker_of, takerFor, fieldsRefusals}
+use Rattle.rules.specs.Answers.{day_without_limit, fillable_lots, first_of, listing_of, taker_of, taker_for, fields_refusals}
 use Rattle.rules.specs.Command.{command_of, is_insert, new_order}
 use Rattle.rules.specs.Exchange.{Exchange, listing_at, no_contract, opposite, place_of, is_absent}
 use Rattle.rules.specs.Matching.{sweep, traded_lots}
@@ -38,7 +38,7 @@ module _ {s : State} {buys sells trades : List ℕ} (w : WellFormedState s buys 
   abbrev c : ℕ
   c = place_of o.contract
 
-  in_parts : first_of (question_refusals x o) ≡ pick (is_absent o.account s.accountcount) 2 (pick (is_absent o.contract s.contractcount) 3 (first_of (fieldsRefusals (dayWithoutLimit o.condition o.time) (listingOf x o).contract o)))
+  in_parts : first_of (question_refusals x o) ≡ pick (is_absent o.account s.accountcount) 2 (pick (is_absent o.contract s.contractcount) 3 (first_of (fields_refusals (day_without_limit o.condition o.time) (listing_of x o).contract o)))
   unfolding first_of question_refusals
   in_parts = rw (no_account_lem m f o.account, no_contract_lem m f o.contract)
 
@@ -55,12 +55,12 @@ module _ {s : State} {buys sells trades : List ℕ} (w : WellFormedState s buys 
     here none = present w o (ea.account_in_use_lem none) (ea.contract_in_use_lem none)
 
     module _ (none : absent ≡ 0) {place : ℕ} (is : place ≡ o.contract - 1) {fields : ℕ}
-        (ef : fields ≡ first_of (fieldsRefusals (dayWithoutLimit o.condition o.time) (get_or s.contracts place no_contract) o)) where
+        (ef : fields ≡ first_of (fields_refusals (day_without_limit o.condition o.time) (get_or s.contracts place no_contract) o)) where
       p : Present s o
       p = here none
 
       code_is : first_of (question_refusals x o) ≡ fields
-      unfolding listingOf
+      unfolding listing_of
       code_is = in_parts ∙ rw (ea.account_in_use_lem none, ea.contract_in_use_lem none, ef, is, contract_is m f c p.contract)
 
       pub refused_fields : (fields ≡ 0 → ⊥) → refused_reading fields ≡ order_reading x o
@@ -71,19 +71,19 @@ module _ {s : State} {buys sells trades : List ℕ} (w : WellFormedState s buys 
         pub room : QueueRoom area (o.contract - 1) count
         room = rw (ec, en, is) (opposite_facing m f c p.contract s.next 0 s.nextstamp (listing_at x c).contract o).queue
 
-        module _ {t : Taker} (et : t ≡ takerFor s.next 0 s.nextstamp (get_or s.contracts place no_contract) (queue_in area (o.contract - 1) count) o) where
+        module _ {t : Taker} (et : t ≡ taker_for s.next 0 s.nextstamp (get_or s.contracts place no_contract) (queue_in area (o.contract - 1) count) o) where
           pub facing : Facing t area place count
           facing = rw (et, ec, en, is) (opposite_facing m f c p.contract s.next 0 s.nextstamp _ o)
 
           pub answered : fields ≡ 0 → {r : Gathered} → GatheredIs t o.lots (queue_in area place count) r
               → record { code = 0; lots = r.lots; read = r.read } ≡ order_reading x o
-          unfolding order_reading reading_with lots_now read_now fillableLots taker_of listingOf exchange_of
+          unfolding order_reading reading_with lots_now read_now fillable_lots taker_of listing_of exchange_of
           answered passed {r} gathered =
               rw (gathered.lots, gathered.read, et, ec, en, is) (sym (rw (code_is, passed, opposite_is m f c p.contract o.sell, contract_is m f c p.contract)))
 
   -- the lots to be had are those that the sweep would trade, whatever the last price
-  pub would_trade : Present s o → (last : ℕ) → traded_lots (sweep (taker_of x x.next 0 o) o.lots last (opposite o.sell (listingOf x o))).trades ≡ lots_now x o
-  unfolding lots_now fillableLots taker_of listingOf
+  pub would_trade : Present s o → (last : ℕ) → traded_lots (sweep (taker_of x x.next 0 o) o.lots last (opposite o.sell (listing_of x o))).trades ≡ lots_now x o
+  unfolding lots_now fillable_lots taker_of listing_of
   would_trade p last =
       let met = opposite_facing m f c p.contract x.next 0 x.nextstamp (listing_at x c).contract o in
       rw (opposite_is m f c p.contract o.sell) (swept_fillable _ o.lots last _ met.order met.best)

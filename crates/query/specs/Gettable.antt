@@ -2,7 +2,7 @@
 -- The contract's state plays no part, nor does the time condition beyond code 6. Assumes nothing.
 use Rattle.std.specs.Prelude.{not, List, [], ◌∷◌, ◌++◌, ◌≡◌, ℕ, ◌+◌, ◌-◌, min, eqb, ltb}
 use Rattle.laws.specs.Choice.{pick}
-use Rattle.rules.specs.Answers.{Refusal, ◌when◌, absentRefusals, dayWithoutLimit, fieldsRefusals, fillableLots, first_of, listingOf, taker_of}
+use Rattle.rules.specs.Answers.{Refusal, ◌when◌, absent_refusals, day_without_limit, fields_refusals, fillable_lots, first_of, listing_of, taker_of}
 use Rattle.rules.specs.Command.{command_of, is_insert, new_order}
 use Rattle.rules.specs.Exchange.{Exchange, opposite}
 use Rattle.rules.specs.Matching.{counterpart, fillable}
@@ -19,7 +19,7 @@ use Rattle.query.specs.declared.scan.Gathered.{Gathered}
 -- "The answer is the smaller of its lots and the fillable lots": the whole queue's, so "the answer equals the one from reading the
 -- whole queue"
 unfoldable pub lots_now : Exchange → NewOrder → ℕ
-lots_now x o = min o.lots (fillableLots x o)
+lots_now x o = min o.lots (fillable_lots x o)
 
 -- "Reading ends when the lots are covered or an order that is no counterpart is met. Give back the number of resting orders read,
 -- that last one counted": where lots are left to cover, the next order is read, and reading goes on behind a counterpart only
@@ -28,15 +28,15 @@ orders_read t left [] = 0
 orders_read t left (o ∷ os) = pick (ltb 0 left) (1 + pick (counterpart t o) (orders_read t (left - o.lots) os) 0) 0
 
 unfoldable pub read_now : Exchange → NewOrder → ℕ
-read_now x o = orders_read (taker_of x x.next 0 o) o.lots (opposite o.sell (listingOf x o))
+read_now x o = orders_read (taker_of x x.next 0 o) o.lots (opposite o.sell (listing_of x o))
 
 -- ---- the refusals, "as for insert, in that order, with no state test"
 
 unfoldable pub question_refusals : Exchange → NewOrder → List Refusal
 question_refusals x o =
-    absentRefusals x o.account o.contract
+    absent_refusals x o.account o.contract
     -- 5 to 7; its 6 is "market or best with good for day" in every state, auction's own is no part of it (02, ticket 4)
-    ++ fieldsRefusals (dayWithoutLimit o.condition o.time) (listingOf x o).contract o
+    ++ fields_refusals (day_without_limit o.condition o.time) (listing_of x o).contract o
 
 -- "21, 1, 2, 3, 5, 6, 7"
 unfoldable pub ask_refusals : Memory → Record → List Refusal

@@ -5,7 +5,7 @@ use Rattle.laws.specs.Choice.{all, all_of}
 use Rattle.laws.specs.Sums.{sum_of}
 use Rattle.laws.specs.Tabulate.{tabulate}
 use Rattle.areas.specs.Records.{decode, records}
-use Rattle.rules.specs.Answers.{fillableLots, first_of, listingOf, priceRefusedBy, taker_of}
+use Rattle.rules.specs.Answers.{fillable_lots, first_of, listing_of, price_refused_by, taker_of}
 use Rattle.rules.specs.Bounds.{allowed_today, auction, closed, continuous, day_high, day_low, no_trading, on_tick, pre_open, terms_in_range, tick_multiple}
 use Rattle.rules.specs.Exchange.{Exchange, absent, account_at, best_price, holding_at, listing_at, lots_where, no_holding, resting}
 use Rattle.rules.specs.Command.{bits, command_of, insert_flags, insert_of, new_order, price_condition, pull_of, time_condition, zeros}
@@ -170,5 +170,5 @@ table =
     ∷ []
 
 pub gettable_examples : all_right table ≡ true
-unfolding all_right table order book sells asking buy_at sell_at market best from now' memory_of bytes absent account_at after_leg ahead ahead_of_first all all_listed all_of allowed_today ask_refusals balance_in_range best_price bits book_leg book_trade book_trades command_of contract_in_range counters_in_range counts_in_range day_high day_low decode exchange_of fillable fillableLots first_of gettable_now has_room holding_at held_in_range holding_in_range holdings_in_range insert_flags insert_of leg_covered listing_at listing_in ranges_kept queues_sorted orders_in_range resting_in_range listingOf lots_now lots_where meets never_below_zero new_order listed on_tick order_in_range order_reading question_refusals orders_read price_condition priceRefusedBy pull_of queue_in read_now reading_with recorded_trades records replays resting same_holdings same_lots sorted start_of_day sum_of tabulate taker_of terms_in_range tick_multiple time_condition trade_in_range uncrossed used_once quotes mark_allowed queue_quoted listing_quoted mark_in_range well_formed_contents well_formed_memory zeros
+unfolding all_right table order book sells asking buy_at sell_at market best from now' memory_of bytes absent account_at after_leg ahead ahead_of_first all all_listed all_of allowed_today ask_refusals balance_in_range best_price bits book_leg book_trade book_trades command_of contract_in_range counters_in_range counts_in_range day_high day_low decode exchange_of fillable fillable_lots first_of gettable_now has_room holding_at held_in_range holding_in_range holdings_in_range insert_flags insert_of leg_covered listing_at listing_in ranges_kept queues_sorted orders_in_range resting_in_range listing_of lots_now lots_where meets never_below_zero new_order listed on_tick order_in_range order_reading question_refusals orders_read price_condition price_refused_by pull_of queue_in read_now reading_with recorded_trades records replays resting same_holdings same_lots sorted start_of_day sum_of tabulate taker_of terms_in_range tick_multiple time_condition trade_in_range uncrossed used_once quotes mark_allowed queue_quoted listing_quoted mark_in_range well_formed_contents well_formed_memory zeros
 gettable_examples = refl

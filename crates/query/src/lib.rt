@@ -3,7 +3,7 @@
 #![tactic(auto)]
 
 ghost use Rattle.std.specs.Prelude.{true, ◌≡◌};
-ghost use Rattle.rules.specs.Answers.{fieldsRefusals};
+ghost use Rattle.rules.specs.Answers.{fields_refusals};
 ghost use Rattle.rules.specs.Answers as answer;
 ghost use Rattle.rules.specs.Bounds.{terms_in_range};
 ghost use Rattle.rules.specs.DayFile.{record_from};
@@ -39,7 +39,7 @@ fn refused(code: u32) -> Reading
 // Codes 5 to 7 of the question: its 6 is that of document 01 in every state, auction too.
 fn fields_code(terms: Contract, o: NewOrder) -> u32
     requires { terms_in_range terms ≡ true }
-    ensures { result ≡ answer.first_of (fieldsRefusals (answer.dayWithoutLimit o.condition o.time) terms o) }
+    ensures { result ≡ answer.first_of (fields_refusals (answer.day_without_limit o.condition o.time) terms o) }
 {
     let condition = o.condition;
     let time = o.time;

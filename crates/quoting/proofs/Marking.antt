@@ -9,7 +9,7 @@ use lib.Dec.{eqb}
 use lib.ListN.{length}
 use Rattle.rules.specs.Bounds.{max_accounts, numbers_end}
 use Rattle.laws.specs.Choice.{pick}
-use Rattle.rules.specs.Answers.{first_of, orderRefusals}
+use Rattle.rules.specs.Answers.{first_of, order_refusals}
 use Rattle.rules.specs.Exchange.{Exchange, place_of}
 use Rattle.rules.specs.Kinds.{refused}
 use Rattle.rules.specs.Memory.{Memory, AfterCommand, WellFormedState, exchange_of, in_memory, memory}
@@ -35,12 +35,12 @@ told_either code entered m z = by_code (eqb code 0) refl
 
 -- what an order's outcome tells
 module _ (m : Memory) (o : NewOrder) {r : Outcome} {buys' sells' trades' : List ℕ} (is : OutcomeIs (marked_in m o) r buys' sells' trades') where
-  pub told : r.answer.code ≡ first_of (orderRefusals (exchange_of m) o)
-  told = ap (λ a. a.code) is.answer ∙ told_either (first_of (orderRefusals (exchange_of m) o)) (entered_in m o m.state.next 1 (m.state.next + 1)) m refl
+  pub told : r.answer.code ≡ first_of (order_refusals (exchange_of m) o)
+  told = ap (λ a. a.code) is.answer ∙ told_either (first_of (order_refusals (exchange_of m) o)) (entered_in m o m.state.next 1 (m.state.next + 1)) m refl
 
   pub nothing_moved : (r.answer.code ≡ 0 → ⊥) → memory r.state buys' sells' trades' ≡ m
   nothing_moved some =
-      let e : eqb (first_of (orderRefusals (exchange_of m) o)) 0 ≡ false = ne_eqb _ 0 (λ z. some (told ∙ z)) in
+      let e : eqb (first_of (order_refusals (exchange_of m) o)) 0 ≡ false = ne_eqb _ 0 (λ z. some (told ∙ z)) in
       is.memory ∙ rw e
 
   pub entered_so : r.answer.code ≡ 0 → OutcomeIs (entered_in m o m.state.next 1 (m.state.next + 1)) r buys' sells' trades'
@@ -62,16 +62,16 @@ module _ {s : State} {buys sells trades : List ℕ} (w : WellFormedState s buys 
   pub marked_fits : {place : ℕ} → place ≡ o.account - 1 → place < max_accounts
   marked_fits e = omega (arith, g.present.account, f.accounts_high)
 
-  module _ {code : ℕ} (ec : code ≡ first_of (orderRefusals x o)) where
+  module _ {code : ℕ} (ec : code ≡ first_of (order_refusals x o)) where
     pub marked_refused : {r : Outcome} → (code ≡ 0 → ⊥) → r ≡ refused_with s code → OutcomeIs (marked_in m o) r buys sells trades
     marked_refused some a =
         rw (← ec, ne_eqb code 0 some)
         (record { answer = ap (λ (q : Outcome). q.answer) a; memory = ap (λ (q : Outcome). memory q.state buys sells trades) a })
 
     module _ (clear : code ≡ 0) where
-      tests : Failed (orderRefusals x o)
-      unfolding orderRefusals
-      tests = failed (orderRefusals x o) (omega arith) (sym ec ∙ clear)
+      tests : Failed (order_refusals x o)
+      unfolding order_refusals
+      tests = failed (order_refusals x o) (omega arith) (sym ec ∙ clear)
 
       holder : place_of o.account < length x.accounts
       holder = rw (accounts_count m f) g.present.account

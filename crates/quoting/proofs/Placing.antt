@@ -11,7 +11,7 @@ use lib.ListN.{length, get_or, set, length-append}
 use lib.Seq.{set-set}
 use Rattle.laws.specs.Choice.{pick}
 use Rattle.areas.specs.Records.{store}
-use Rattle.rules.specs.Answers.{Refusal, dayLimitOrder, first_of, isGoodForDay, listingOf, namedRefusals, notContinuous, orderRefusals, pullRefusals, taker_of, tradesNeeded, tradesAgainst}
+use Rattle.rules.specs.Answers.{Refusal, day_limit_order, first_of, is_good_for_day, listing_of, named_refusals, not_continuous, order_refusals, pull_refusals, taker_of, trades_needed, trades_against}
 use Rattle.rules.specs.Bounds.{in_auction, max_lots, max_resting, max_trades, max_accounts}
 use Rattle.rules.specs.Exchange.{Exchange, Listing, account_at, holder_of, no_account, opposite, own, place_of}
 use Rattle.rules.specs.Kinds.{code_of, done, kind_of}
@@ -26,7 +26,7 @@ use Rattle.rules.specs.declared.NewOrder.{NewOrder}
 use Rattle.rules.specs.declared.Order.{Order}
 use Rattle.rules.specs.declared.State.{State}
 use Rattle.rules.specs.declared.Trade.{Trade}
-use Rattle.theory.proofs.AuctionSteps.{entered_either, trades_needed}
+use Rattle.theory.proofs.AuctionSteps.{entered_either, trades_needed_lem}
 use Rattle.theory.proofs.Codecs.{length_queue}
 use Rattle.theory.proofs.InUse.{account_in_use_lem}
 use Rattle.theory.proofs.Fillable.{swept_at_most, traded_nil}
@@ -57,13 +57,13 @@ use Rattle.quoting.proofs.Marking.{entered_so, nothing_moved, told}
 use Rattle.quoting.proofs.Undo.{made_room, undo_both, undo_nothing, undo_queue, undo_trades}
 
 -- an order trades at most once with each order that it meets
-needed_few : (y : Exchange) (number : ℕ) (o : NewOrder) → tradesNeeded y number o ≤ length (opposite o.sell (listingOf y o))
-unfolding tradesNeeded tradesAgainst
-needed_few y number o = by_auction (in_auction (listingOf y o).contract)
+needed_few : (y : Exchange) (number : ℕ) (o : NewOrder) → trades_needed y number o ≤ length (opposite o.sell (listing_of y o))
+unfolding trades_needed trades_against
+needed_few y number o = by_auction (in_auction (listing_of y o).contract)
   where
-    by_auction : (b : Bool) → pick b 0 (length (sweep (taker_of y number 0 o) o.lots (listingOf y o).contract.last (opposite o.sell (listingOf y o))).trades) ≤ length (opposite o.sell (listingOf y o))
+    by_auction : (b : Bool) → pick b 0 (length (sweep (taker_of y number 0 o) o.lots (listing_of y o).contract.last (opposite o.sell (listing_of y o))).trades) ≤ length (opposite o.sell (listing_of y o))
     by_auction true = omega arith
-    by_auction false = omega (arith, trades_counted (taker_of y number 0 o) o.lots (listingOf y o).contract.last (opposite o.sell (listingOf y o)), count_within (taker_of y number 0 o) o.lots (opposite o.sell (listingOf y o)))
+    by_auction false = omega (arith, trades_counted (taker_of y number 0 o) o.lots (listing_of y o).contract.last (opposite o.sell (listing_of y o)), count_within (taker_of y number 0 o) o.lots (opposite o.sell (listing_of y o)))
 
 -- an order trades and rests at most its lots
 rested_lots_lem : (b : Bool) (lots : ℕ) (ts : List Trade) → rested_lots b lots ts ≤ lots
@@ -75,10 +75,10 @@ entered_lots : (y : Exchange) (number mark : ℕ) (o : NewOrder) → (traded_lot
 unfolding enter rest_whole
 entered_lots y number mark o =
     entered_either y number mark o (λ e. (traded_lots e.trades ≤ o.lots) × (e.rested ≤ o.lots)) (λ h. (omega (arith, traded_nil), omega arith))
-    (λ h. (swept_at_most (taker_of y number mark o) o.lots (listingOf y o).contract.last (opposite o.sell (listingOf y o)), rested_lots_lem (isGoodForDay o.time) o.lots _))
+    (λ h. (swept_at_most (taker_of y number mark o) o.lots (listing_of y o).contract.last (opposite o.sell (listing_of y o)), rested_lots_lem (is_good_for_day o.time) o.lots _))
 
 -- what the code takes out of the two queues is the account's old quote
-module _ {s : State} {buys sells trades : List ℕ} (w : WellFormedState s buys sells trades) (account contract : ℕ) (none : first_of (pullRefusals (exchange_of (memory s buys sells trades)) account contract false) ≡ 0) {place : ℕ} (is : place ≡ place_of contract)
+module _ {s : State} {buys sells trades : List ℕ} (w : WellFormedState s buys sells trades) (account contract : ℕ) (none : first_of (pull_refusals (exchange_of (memory s buys sells trades)) account contract false) ≡ 0) {place : ℕ} (is : place ≡ place_of contract)
     {owner : ℕ} (mine : owner ≡ place_of account) {bought sold bid offer : ℕ} {buys' sells' : List ℕ}
     (from-buys : RemovedIs (is_quote_of owner) buys place (get_or s.buycounts place 0) bought bid buys') (from-sells : RemovedIs (is_quote_of owner) sells place (get_or s.sellcounts place 0) sold offer sells') where
   own_buys : RemovedIs (is_quote_of (place_of account)) buys place (get_or s.buycounts place 0) bought bid buys'
@@ -98,12 +98,12 @@ module _ {s : State} {buys sells trades : List ℕ} (w : WellFormedState s buys 
 
 -- ---- 2, 3 and 4, then 23 and 24, as the code tries them
 
-pub named_passed : (x : Exchange) (account contract buy sell : ℕ) → first_of (early_refusals x account contract buy sell) ≡ 0 → Failed (namedRefusals x notContinuous account contract)
+pub named_passed : (x : Exchange) (account contract buy sell : ℕ) → first_of (early_refusals x account contract buy sell) ≡ 0 → Failed (named_refusals x not_continuous account contract)
 named_passed x account contract buy sell e =
-    (both_zero (namedRefusals x notContinuous account contract) (offer_refusals (holder_of x account) buy sell) (omega arith) e).0
+    (both_zero (named_refusals x not_continuous account contract) (offer_refusals (holder_of x account) buy sell) (omega arith) e).0
 
 module _ {s : State} (d : Declared s) (few : s.accountcount ≤ max_accounts) (buys sells trades : List ℕ) (account contract buy sell : ℕ) {named : ℕ}
-    (en : named ≡ first_of (namedRefusals (exchange_of (memory s buys sells trades)) notContinuous account contract)) where
+    (en : named ≡ first_of (named_refusals (exchange_of (memory s buys sells trades)) not_continuous account contract)) where
   abbrev y : Exchange
   y = exchange_of (memory s buys sells trades)
 
@@ -111,12 +111,12 @@ module _ {s : State} (d : Declared s) (few : s.accountcount ≤ max_accounts) (b
   code = first_of (early_refusals y account contract buy sell)
 
   pub early_named : (named ≡ 0 → ⊥) → named ≡ code
-  early_named some = en ∙ first_here (namedRefusals y notContinuous account contract) (offer_refusals (holder_of y account) buy sell) (λ e. some (en ∙ e))
+  early_named some = en ∙ first_here (named_refusals y not_continuous account contract) (offer_refusals (holder_of y account) buy sell) (λ e. some (en ∙ e))
 
   -- the account as it lies
   module _ (none : named ≡ 0) {place : ℕ} (is : place ≡ place_of account) where
     in_use : place_of account < s.accountcount
-    in_use = (account_there d few buys sells trades notContinuous account contract (failed (namedRefusals y notContinuous account contract) (omega arith) (sym en ∙ none))).1
+    in_use = (account_there d few buys sells trades not_continuous account contract (failed (named_refusals y not_continuous account contract) (omega arith) (sym en ∙ none))).1
 
     maker_is : (holder_of y account).maker ≡ (get_or s.accounts place no_account).maker
     unfolding account_at
@@ -124,7 +124,7 @@ module _ {s : State} (d : Declared s) (few : s.accountcount ≤ max_accounts) (b
 
     maker_first : code ≡ pick (not (eqb (get_or s.accounts place no_account).maker 1)) 23 (pick (not (ltb buy sell)) 24 0)
     unfolding first_of
-    maker_first = sym (first_there (namedRefusals y notContinuous account contract) (offer_refusals (holder_of y account) buy sell) (omega arith) (sym en ∙ none)) ∙ rw maker_is refl
+    maker_first = sym (first_there (named_refusals y not_continuous account contract) (offer_refusals (holder_of y account) buy sell) (omega arith) (sym en ∙ none)) ∙ rw maker_is refl
 
     pub early_maker : ((get_or s.accounts place no_account).maker ≡ 1 → ⊥) → 23 ≡ code
     early_maker e = sym (maker_first ∙ rw (ne_eqb _ _ e) refl)
@@ -164,7 +164,7 @@ module _ {s : State} {buys sells trades : List ℕ} (w : WellFormedState s buys 
   early = early_refusals x account contract buy sell
 
   abbrev order_codes : List Refusal
-  order_codes = orderRefusals (without_quote x q) (buy_of q) ++ orderRefusals (with_buy x q) (sell_of q)
+  order_codes = order_refusals (without_quote x q) (buy_of q) ++ order_refusals (with_buy x q) (sell_of q)
 
   in_parts : code_of x command ≡ pick (eqb (first_of early) 0) (first_of order_codes) (first_of early)
   unfolding code_of kind_of quote_refusals
@@ -177,7 +177,7 @@ module _ {s : State} {buys sells trades : List ℕ} (w : WellFormedState s buys 
     tests : Failed early
     tests = failed early (omega arith) none
 
-    named : Failed (namedRefusals x notContinuous account contract)
+    named : Failed (named_refusals x not_continuous account contract)
     named = named_passed x account contract buy sell none
 
     holder_here : a < s.accountcount
@@ -189,7 +189,7 @@ module _ {s : State} {buys sells trades : List ℕ} (w : WellFormedState s buys 
     pub contract_low : 1 ≤ contract
     contract_low = first.contract_low w account contract named
 
-    pub removable : first_of (pullRefusals x account contract false) ≡ 0
+    pub removable : first_of (pull_refusals x account contract false) ≡ 0
     removable = first.pulls w account contract named
 
     holder : a < length x.accounts
@@ -207,9 +207,9 @@ module _ {s : State} {buys sells trades : List ℕ} (w : WellFormedState s buys 
     on : code_of x command ≡ first_of order_codes
     on = in_parts ∙ rw none
 
-    orders_first : first_of order_codes ≡ pick (eqb (first_of (orderRefusals (without_quote x q) (buy_of q))) 0) (first_of (orderRefusals (with_buy x q) (sell_of q))) (first_of (orderRefusals (without_quote x q) (buy_of q)))
-    unfolding orderRefusals
-    orders_first = first_append (orderRefusals (without_quote x q) (buy_of q)) (orderRefusals (with_buy x q) (sell_of q)) (omega arith)
+    orders_first : first_of order_codes ≡ pick (eqb (first_of (order_refusals (without_quote x q) (buy_of q))) 0) (first_of (order_refusals (with_buy x q) (sell_of q))) (first_of (order_refusals (without_quote x q) (buy_of q)))
+    unfolding order_refusals
+    orders_first = first_append (order_refusals (without_quote x q) (buy_of q)) (order_refusals (with_buy x q) (sell_of q)) (omega arith)
 
     shapes : Each (SameShape x) (without_quote x q ∷ with_buy x q ∷ with_sell x q ∷ [])
     unfolding quoted
@@ -281,13 +281,13 @@ module _ {s : State} {buys sells trades : List ℕ} (w : WellFormedState s buys 
 
       -- ---- the buy
 
-      module _ {bid : NewOrder} (eb : bid ≡ dayLimitOrder account contract false false lots buy) where
+      module _ {bid : NewOrder} (eb : bid ≡ day_limit_order account contract false false lots buy) where
         bid_is : bid ≡ buy_of q
         unfolding half
         bid_is = eb
 
         pub buy_quotable : Quotable gone buys₁ sells₁ trades bid
-        unfolding listingOf
+        unfolding listing_of
         buy_quotable =
             rw eb
             (record {
@@ -304,7 +304,7 @@ module _ {s : State} {buys sells trades : List ℕ} (w : WellFormedState s buys 
             })
 
         module _ {r₁ : Outcome} {buys₂ sells₂ trades₂ : List ℕ} (i₁ : OutcomeIs (marked_in m₁ bid) r₁ buys₂ sells₂ trades₂) where
-          told_buy : r₁.answer.code ≡ first_of (orderRefusals (without_quote x q) (buy_of q))
+          told_buy : r₁.answer.code ≡ first_of (order_refusals (without_quote x q) (buy_of q))
           told_buy = told m₁ bid i₁ ∙ rw (bid_is, gone_read)
 
           -- refused
@@ -325,9 +325,9 @@ module _ {s : State} {buys sells trades : List ℕ} (w : WellFormedState s buys 
 
           -- entered
           module _ (clear : r₁.answer.code ≡ 0) where
-            bought : Failed (orderRefusals (without_quote x q) (buy_of q))
-            unfolding orderRefusals
-            bought = failed (orderRefusals (without_quote x q) (buy_of q)) (omega arith) (sym told_buy ∙ clear)
+            bought : Failed (order_refusals (without_quote x q) (buy_of q))
+            unfolding order_refusals
+            bought = failed (order_refusals (without_quote x q) (buy_of q)) (omega arith) (sym told_buy ∙ clear)
 
             abbrev m₂ : Memory
             m₂ = memory r₁.state buys₂ sells₂ trades₂
@@ -379,7 +379,7 @@ module _ {s : State} {buys sells trades : List ℕ} (w : WellFormedState s buys 
             made = (entered_of (exchange_of m₁) (exchange_of m₁).next 1 (buy_of q)).trades
 
             abbrev listing₁ : Listing
-            listing₁ = listing_after (listingOf (exchange_of m₁) (buy_of q)) false (entered_of (exchange_of m₁) (exchange_of m₁).next 1 (buy_of q))
+            listing₁ = listing_after (listing_of (exchange_of m₁) (buy_of q)) false (entered_of (exchange_of m₁) (exchange_of m₁).next 1 (buy_of q))
 
             here₁ : c < gone.contractcount
             here₁ = rw gone_counts.1 here
@@ -414,12 +414,12 @@ module _ {s : State} {buys sells trades : List ℕ} (w : WellFormedState s buys 
             trades_same : gone.tradecount ≡ s.tradecount
             trades_same = sym (trades_count m₁ f₁) ∙ ap (λ (y : Exchange). length y.trades) gone_read ∙ gone_trades
 
-            opposite_few : length (opposite (buy_of q).sell (listingOf (exchange_of m₁) (buy_of q))) ≤ max_resting
-            unfolding listingOf half
+            opposite_few : length (opposite (buy_of q).sell (listing_of (exchange_of m₁) (buy_of q))) ≤ max_resting
+            unfolding listing_of half
             opposite_few = (sound m₁ gone_formed.formed).counts.queues c true (rw (contracts_count m₁ f₁) here₁)
 
             made_few : length made ≤ max_resting
-            made_few = omega (arith, trades_needed (exchange_of m₁) (exchange_of m₁).next 1 (buy_of q), needed_few (exchange_of m₁) (exchange_of m₁).next (buy_of q), opposite_few)
+            made_few = omega (arith, trades_needed_lem (exchange_of m₁) (exchange_of m₁).next 1 (buy_of q), needed_few (exchange_of m₁) (exchange_of m₁).next (buy_of q), opposite_few)
 
             made_fit : s.tradecount + length made ≤ max_trades
             made_fit = omega (arith, counted₁.trades, length-append (exchange_of m₁).trades made, trades_count m₁ f₁, trades_same)
@@ -438,13 +438,13 @@ module _ {s : State} {buys sells trades : List ℕ} (w : WellFormedState s buys 
 
             -- ---- the sell
 
-            module _ {offer : NewOrder} (eo : offer ≡ dayLimitOrder account contract true false lots sell) where
+            module _ {offer : NewOrder} (eo : offer ≡ day_limit_order account contract true false lots sell) where
               offer_is : offer ≡ sell_of q
               unfolding half
               offer_is = eo
 
               pub sell_quotable : Quotable r₁.state buys₂ sells₂ trades₂ offer
-              unfolding listingOf
+              unfolding listing_of
               sell_quotable =
                   rw eo
                   (record {
@@ -461,7 +461,7 @@ module _ {s : State} {buys sells trades : List ℕ} (w : WellFormedState s buys 
                   })
 
               module _ {r₂ : Outcome} {buys₃ sells₃ trades₃ : List ℕ} (i₂ : OutcomeIs (marked_in m₂ offer) r₂ buys₃ sells₃ trades₃) where
-                told_sell : r₂.answer.code ≡ first_of (orderRefusals (with_buy x q) (sell_of q))
+                told_sell : r₂.answer.code ≡ first_of (order_refusals (with_buy x q) (sell_of q))
                 told_sell = told m₂ offer i₂ ∙ rw (offer_is, buy_read)
 
                 code_sell : code_of x command ≡ r₂.answer.code

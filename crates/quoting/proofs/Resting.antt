@@ -9,7 +9,7 @@ use lib.Dec.{T}
 use lib.ListN.{get_or}
 use lib.Seq.{set-set}
 use types.Run.{OneOf}
-use Rattle.rules.specs.Answers.{dayLimitOrder, first_of, orderRefusals}
+use Rattle.rules.specs.Answers.{day_limit_order, first_of, order_refusals}
 use Rattle.rules.specs.Bounds.{max_contracts, max_lots}
 use Rattle.rules.specs.Exchange.{no_account, place_of}
 use Rattle.rules.specs.Memory.{WellFormedState, exchange_of, memory, step_in}
@@ -41,7 +41,7 @@ use Rattle.quoting.proofs.Placing.{bought_formed, buy_quotable, buy_refused, her
 -- ---- an order
 
 module _ {s : State} {buys sells trades : List ℕ} (w : WellFormedState s buys sells trades) (o : NewOrder) (g : Quotable s buys sells trades o) {code : ℕ}
-    (ec : code ≡ first_of (orderRefusals (exchange_of (memory s buys sells trades)) o)) {l : Listed} {place : ℕ} (at : place ≡ place_of o.contract) (el : l ≡ listed_in s place) where
+    (ec : code ≡ first_of (order_refusals (exchange_of (memory s buys sells trades)) o)) {l : Listed} {place : ℕ} (at : place ≡ place_of o.contract) (el : l ≡ listed_in s place) where
   stands : l.place ≡ place_of o.contract
   stands = ap (λ (v : Listed). v.place) el ∙ at
 
@@ -87,7 +87,7 @@ written_over s l after e =
 module _ {s : State} {buys sells trades : List ℕ} (w : WellFormedState s buys sells trades) (q : Quoted)
     (none : first_of (early_refusals (exchange_of (memory s buys sells trades)) q.account q.contract q.buy q.sell) ≡ 0)
     {gone : State} {buys₁ sells₁ : List ℕ} (eg : GoneIs s buys sells trades q.account q.contract gone buys₁ sells₁)
-    {bid : NewOrder} (eb : bid ≡ dayLimitOrder q.account q.contract false false q.lots q.buy)
+    {bid : NewOrder} (eb : bid ≡ day_limit_order q.account q.contract false false q.lots q.buy)
     {r₁ : Rested} {buys₂ sells₂ : List ℕ} (k₁ : RestedIs gone buys₁ sells₁ trades bid r₁ buys₂ sells₂) where
   on_contract : r₁.listed.place ≡ place_of q.contract
   on_contract = k₁.place ∙ ap (λ (o : NewOrder). place_of o.contract) eb
@@ -135,7 +135,7 @@ module _ {s : State} {buys sells trades : List ℕ} (w : WellFormedState s buys 
       pub after_held : {who : Account} → get_or s.accounts (place_of q.account) no_account ≡ who → get_or after.accounts (place_of q.account) no_account ≡ who
       after_held h = rw (ea, eg.accounts) h
 
-      module _ {offer : NewOrder} (eo : offer ≡ dayLimitOrder q.account q.contract true false q.lots q.sell) where
+      module _ {offer : NewOrder} (eo : offer ≡ day_limit_order q.account q.contract true false q.lots q.sell) where
         pub after_quotable : Quotable after buys₂ sells₂ trades offer
         after_quotable = sell_quotable w q.account q.contract q.lots q.buy q.sell none eg.lies eb i₁ clear eo
 

@@ -3,7 +3,7 @@
 use Rattle.std.specs.Prelude.{Bool, true, false, List, ◌++◌, ◌≡◌, ℕ, ◌+◌, ◌*◌, eqb, leb, length, take, drop}
 use Rattle.areas.specs.Lists.{over}
 use Rattle.laws.specs.Choice.{pick}
-use Rattle.rules.specs.Answers.{Refusal, first_of, listingOf, namedRefusals, notContinuous, orderRefusals}
+use Rattle.rules.specs.Answers.{Refusal, first_of, listing_of, named_refusals, not_continuous, order_refusals}
 use Rattle.rules.specs.Bounds.{max_resting, trades_with_room}
 use Rattle.rules.specs.Exchange.{Exchange, account_at, holder_of, own, place_of}
 use Rattle.rules.specs.Kinds.{refused}
@@ -27,7 +27,7 @@ use Rattle.insertion.specs.Entry.{entered_in}
 -- 2, 3, 4, 23, 24: what a quote is refused for before its orders are looked at
 abbrev pub early_refusals : Exchange → ℕ → ℕ → ℕ → ℕ → List Refusal
 early_refusals x account contract buy sell =
-    namedRefusals x notContinuous account contract ++ offer_refusals (holder_of x account) buy sell
+    named_refusals x not_continuous account contract ++ offer_refusals (holder_of x account) buy sell
 
 -- the account's old quote taken out of the contract's queues
 abbrev pub gone_in : Memory → ℕ → ℕ → Memory
@@ -46,14 +46,14 @@ pub record Quotable (s : State) (buys sells trades : List ℕ) (o : NewOrder) : 
   pub present : Present s o
   pub opens : o.close ≡ false
   pub maker : (account_at (exchange_of (memory s buys sells trades)).accounts (place_of o.account)).maker ≡ 1
-  pub single : quotes (place_of o.account) (own o.sell (listingOf (exchange_of (memory s buys sells trades)) o)) ≡ 0
+  pub single : quotes (place_of o.account) (own o.sell (listing_of (exchange_of (memory s buys sells trades)) o)) ≡ 0
 
 -- refused with its code from 5 on, or entered with the next number, marked
 abbrev pub marked_in : Memory → NewOrder → AfterCommand
 marked_in m o =
-    pick (eqb (first_of (orderRefusals (exchange_of m) o)) 0)
+    pick (eqb (first_of (order_refusals (exchange_of m) o)) 0)
     (entered_in m o m.state.next 1 (m.state.next + 1))
-    (in_memory m (refused (first_of (orderRefusals (exchange_of m) o))))
+    (in_memory m (refused (first_of (order_refusals (exchange_of m) o))))
 
 -- ---- both orders
 

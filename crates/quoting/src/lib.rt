@@ -64,7 +64,7 @@ fn remove_quote(
     account: u32,
     contract: u32,
 ) -> State
-    requires { WellFormedState state buys.old sells.old trades.now × (answer.first_of (answer.pullRefusals (exchange_of (memory state buys.old sells.old trades.now)) account contract false) ≡ 0) }
+    requires { WellFormedState state buys.old sells.old trades.now × (answer.first_of (answer.pull_refusals (exchange_of (memory state buys.old sells.old trades.now)) account contract false) ≡ 0) }
     ensures { GoneIs state buys.old sells.old trades.now account contract result buys.new sells.new }
 {
     let c = laws::place_of(contract);

@@ -11,7 +11,7 @@ use lib.Signed.{lt_z}
 use Rattle.rules.specs.Bounds.{max_lots, balance_most}
 use Rattle.laws.specs.Bound.{Within}
 use Rattle.laws.specs.Lists.{at_set}
-use Rattle.rules.specs.Answers.{moneyRefused}
+use Rattle.rules.specs.Answers.{money_refused}
 use Rattle.rules.specs.Exchange.{Exchange, account_at, holding_at, no_account, no_contract, no_holding, place_of}
 use Rattle.rules.specs.Holdings.{after_leg, book_leg, with_holding}
 use Rattle.rules.specs.Margin.{charged, charged_with, with_open}
@@ -71,8 +71,8 @@ module _ {s : State} {buys sells trades : List ℕ} (w : WellFormedState s buys 
   abbrev c : ℕ
   c = place_of o.contract
 
-  pub close_free : o.close ≡ true → false ≡ moneyRefused x o
-  unfolding moneyRefused
+  pub close_free : o.close ≡ true → false ≡ money_refused x o
+  unfolding money_refused
   close_free e = rw e
 
   -- what the account holds, and the same with the order's lots
@@ -123,6 +123,6 @@ module _ {s : State} {buys sells trades : List ℕ} (w : WellFormedState s buys 
             (record { account = rw whose p.account; held = rw (whose, eh, is, ← ew) held_after; listed = refl; count = refl; bought = refl; sold = refl })
             ∙ rw (whose, leg_in_use s buys sells trades a c o.sell o.lots p.account p.contract)
 
-        pub money_is : {r : Bool} → o.close ≡ false → r ≡ lt_z who.balance (pos total) → r ≡ moneyRefused x o
-        unfolding moneyRefused account_at
+        pub money_is : {r : Bool} → o.close ≡ false → r ≡ lt_z who.balance (pos total) → r ≡ money_refused x o
+        unfolding money_refused account_at
         money_is opens er = er ∙ rw (← ew, opens, charged_is, account_at_lem m f a p.account)

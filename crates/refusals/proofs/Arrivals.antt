@@ -9,7 +9,7 @@ use borrow.Author.Tests.{le-ltb}
 use lib.Dec.{ltb}
 use lib.ListN.{length, get_or, drop}
 use Rattle.laws.specs.Choice.{pick}
-use Rattle.rules.specs.Answers.{noRoomFor, tradesAgainst}
+use Rattle.rules.specs.Answers.{no_room_for, trades_against}
 use Rattle.rules.specs.Bounds.{in_auction, max_resting, max_trades, trades_with_room}
 use Rattle.book.specs.EarlyStop.{count_trades, fillable_front}
 use Rattle.rules.specs.Exchange.{best_price, no_order}
@@ -60,19 +60,19 @@ module _ (terms : Contract) (t : Taker) (lots : ℕ) {area : List ℕ} {c count 
   pub few_trades : count_trades t lots queue ≤ max_resting
   few_trades = omega (arith, count_within t lots queue, length_queue area c count, room.few)
 
-  pub trades_none : (recorded : ℕ) → recorded ≤ max_trades → in_auction terms ≡ true → false ≡ noRoomFor recorded (tradesAgainst terms t lots queue)
-  unfolding tradesAgainst
+  pub trades_none : (recorded : ℕ) → recorded ≤ max_trades → in_auction terms ≡ true → false ≡ no_room_for recorded (trades_against terms t lots queue)
+  unfolding trades_against
   trades_none recorded h e = sym (rw e (le-ltb max_trades (recorded + 0) (omega arith)))
 
   module _ (elsewhere : in_auction terms ≡ false) where
-    trades_are : tradesAgainst terms t lots queue ≡ count_trades t lots queue
-    unfolding tradesAgainst
+    trades_are : trades_against terms t lots queue ≡ count_trades t lots queue
+    unfolding trades_against
     trades_are = rw elsewhere (trades_counted t lots terms.last queue)
 
-    pub trades_fit : (recorded : ℕ) → recorded ≤ trades_with_room → false ≡ noRoomFor recorded (tradesAgainst terms t lots queue)
+    pub trades_fit : (recorded : ℕ) → recorded ≤ trades_with_room → false ≡ no_room_for recorded (trades_against terms t lots queue)
     trades_fit recorded h = sym (rw trades_are (le-ltb max_trades (recorded + count_trades t lots queue) (omega (arith, few_trades))))
 
-    pub trades_told : (recorded : ℕ) {n : ℕ} → n ≡ count_trades t lots queue → ltb max_trades (recorded + n) ≡ noRoomFor recorded (tradesAgainst terms t lots queue)
+    pub trades_told : (recorded : ℕ) {n : ℕ} → n ≡ count_trades t lots queue → ltb max_trades (recorded + n) ≡ no_room_for recorded (trades_against terms t lots queue)
     trades_told recorded e = rw (trades_are, e) refl
 
 -- ---- the lots that can be filled

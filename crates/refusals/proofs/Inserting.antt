@@ -9,7 +9,7 @@ use borrow.Author.Tests.{leb-true, not-false}
 use lib.Dec.{leb}
 use lib.ListN.{length, get_or}
 use Rattle.laws.specs.Choice.{both_true, pick}
-use Rattle.rules.specs.Answers.{Refusal, accountRefusals, bookRefusals, conditionsRefused, fieldsRefusals, fillableLots, first_of, fullRefused, holdingRefused, insertRefusals, killRefused, listingOf, lotsRefused, mark, noRoomFor, oppositeQueue, orderRefusals, ownQueue, takerFor, taker_of, takesOrders, tradesNeeded, tradesRefused, tradesAgainst}
+use Rattle.rules.specs.Answers.{Refusal, account_refusals, book_refusals, conditions_refused, fields_refusals, fillable_lots, first_of, full_refused, holding_refused, insert_refusals, kill_refused, listing_of, lots_refused, mark, no_room_for, opposite_queue, order_refusals, own_queue, taker_for, taker_of, takes_orders, trades_needed, trades_refused, trades_against}
 use Rattle.rules.specs.Bounds.{in_auction, max_contracts, max_limit, max_lots, max_resting, max_trades, numbers_end, terms_in_range, within}
 use Rattle.rules.specs.Exchange.{Exchange, account_at, holding_at, is_absent, no_account, no_contract, no_holding, place_of, resting}
 use Rattle.rules.specs.Kinds.{code_of, kind_of}
@@ -36,12 +36,12 @@ use Rattle.refusals.proofs.Sides.{contract_is, contract_terms, opposite_facing, 
 
 -- 10 to 13, in any exchange in which the order meets the queue so
 pub book_tests : {x : Exchange} {o : NewOrder} {l : Listed} {terms : Contract} {own : ℕ} {t : Taker} {queue : List Order} → MeetsQueue x o l terms own t queue →
-    first_of (bookRefusals x o)
+    first_of (book_refusals x o)
     ≡ pick (leb numbers_end l.next || leb numbers_end l.nextstamp) 10
-    (pick (killRefused (fillable t queue) o.lots o.time) 11
-    (pick (noRoomFor l.recorded (tradesAgainst terms t o.lots queue)) 12
-    (pick (fullRefused (in_auction terms) own (fillable t queue) o.lots o.time) 13 0)))
-unfolding first_of fillableLots tradesRefused tradesNeeded
+    (pick (kill_refused (fillable t queue) o.lots o.time) 11
+    (pick (no_room_for l.recorded (trades_against terms t o.lots queue)) 12
+    (pick (full_refused (in_auction terms) own (fillable t queue) o.lots o.time) 13 0)))
+unfolding first_of fillable_lots trades_refused trades_needed
 book_tests m = rw (m.taker, m.opposite_side, m.own_side, m.contract, m.recorded, m.next, m.nextstamp) refl
 
 module _ {s : State} {buys sells trades : List ℕ} (w : WellFormedState s buys sells trades) (o : NewOrder) where
@@ -60,59 +60,59 @@ module _ {s : State} {buys sells trades : List ℕ} (w : WellFormedState s buys 
   -- ---- the order's code from 5 on, part by part
 
   abbrev code : ℕ
-  code = first_of (orderRefusals x o)
+  code = first_of (order_refusals x o)
 
   abbrev fields_part : List Refusal
-  fields_part = fieldsRefusals (conditionsRefused (listingOf x o).contract o) (listingOf x o).contract o
+  fields_part = fields_refusals (conditions_refused (listing_of x o).contract o) (listing_of x o).contract o
 
   module _ {fields : ℕ} (ef : fields ≡ first_of fields_part) where
     pub code_fields : (fields ≡ 0 → ⊥) → fields ≡ code
-    unfolding orderRefusals
+    unfolding order_refusals
     code_fields some =
-        ef ∙ first_here fields_part (accountRefusals x o) (λ e. some (ef ∙ e)) ∙ first_here (fields_part ++ accountRefusals x o) (bookRefusals x o) (λ e. some (ef ∙ first_here fields_part (accountRefusals x o) (λ e. some (ef ∙ e)) ∙ e))
+        ef ∙ first_here fields_part (account_refusals x o) (λ e. some (ef ∙ e)) ∙ first_here (fields_part ++ account_refusals x o) (book_refusals x o) (λ e. some (ef ∙ first_here fields_part (account_refusals x o) (λ e. some (ef ∙ e)) ∙ e))
 
     pub lots_few : fields ≡ 0 → o.lots ≤ max_lots
     lots_few none =
         let tests = failed fields_part (omega arith) (sym ef ∙ none) in
         leb-true o.lots max_lots (both_true (leb 1 o.lots) (leb o.lots max_lots) (not-false (within 1 max_lots o.lots) tests.0)).1
 
-    module _ (none : fields ≡ 0) {account : ℕ} (ea : account ≡ first_of (accountRefusals x o)) where
-      on : account ≡ first_of (fields_part ++ accountRefusals x o)
-      on = ea ∙ first_there fields_part (accountRefusals x o) (omega arith) (sym ef ∙ none)
+    module _ (none : fields ≡ 0) {account : ℕ} (ea : account ≡ first_of (account_refusals x o)) where
+      on : account ≡ first_of (fields_part ++ account_refusals x o)
+      on = ea ∙ first_there fields_part (account_refusals x o) (omega arith) (sym ef ∙ none)
 
       pub code_lots_or_money : (account ≡ 0 → ⊥) → account ≡ code
-      unfolding orderRefusals
-      code_lots_or_money some = on ∙ first_here (fields_part ++ accountRefusals x o) (bookRefusals x o) (λ e. some (on ∙ e))
+      unfolding order_refusals
+      code_lots_or_money some = on ∙ first_here (fields_part ++ account_refusals x o) (book_refusals x o) (λ e. some (on ∙ e))
 
-      pub code_book : account ≡ 0 → {book : ℕ} → book ≡ first_of (bookRefusals x o) → book ≡ code
-      unfolding orderRefusals
-      code_book clear eb = eb ∙ first_there (fields_part ++ accountRefusals x o) (bookRefusals x o) (omega arith) (sym on ∙ clear)
+      pub code_book : account ≡ 0 → {book : ℕ} → book ≡ first_of (book_refusals x o) → book ≡ code
+      unfolding order_refusals
+      code_book clear eb = eb ∙ first_there (fields_part ++ account_refusals x o) (book_refusals x o) (omega arith) (sym on ∙ clear)
 
   -- ---- 2, 3 and 4 of an insert, and on to its order
 
   abbrev forbids : Contract → Bool
-  forbids terms = not (takesOrders terms)
+  forbids terms = not (takes_orders terms)
 
   pub code_account : is_absent o.account s.accountcount ≡ true → 2 ≡ code_of x (Insert o)
-  unfolding code_of kind_of insertRefusals
+  unfolding code_of kind_of insert_refusals
   code_account e = no_such_account w.declared f.accounts_high buys sells trades o.account o.contract _ e
 
   module _ (a : is_absent o.account s.accountcount ≡ false) where
     pub code_contract : is_absent o.contract s.contractcount ≡ true → 3 ≡ code_of x (Insert o)
-    unfolding code_of kind_of insertRefusals
+    unfolding code_of kind_of insert_refusals
     code_contract e = no_such_contract w.declared f.accounts_high buys sells trades o.account o.contract _ a e
 
-    module _ (b : is_absent o.contract s.contractcount ≡ false) {place : ℕ} (is : place ≡ place_of o.contract) {takes : Bool} (et : takes ≡ takesOrders (get_or s.contracts place no_contract)) where
-      takes_is : takes ≡ takesOrders (get_or s.contracts c no_contract)
+    module _ (b : is_absent o.contract s.contractcount ≡ false) {place : ℕ} (is : place ≡ place_of o.contract) {takes : Bool} (et : takes ≡ takes_orders (get_or s.contracts place no_contract)) where
+      takes_is : takes ≡ takes_orders (get_or s.contracts c no_contract)
       takes_is = et ∙ rw is refl
 
       pub code_phase : takes ≡ false → 4 ≡ code_of x (Insert o)
-      unfolding code_of kind_of insertRefusals
-      code_phase e = forbidden w.declared f.accounts_high buys sells trades forbids o.account o.contract (orderRefusals x o) a b (ap not (sym takes_is ∙ e))
+      unfolding code_of kind_of insert_refusals
+      code_phase e = forbidden w.declared f.accounts_high buys sells trades forbids o.account o.contract (order_refusals x o) a b (ap not (sym takes_is ∙ e))
 
       pub code_order : {r : ℕ} → takes ≡ true → r ≡ code → r ≡ code_of x (Insert o)
-      unfolding code_of kind_of insertRefusals
-      code_order e h = h ∙ sym (allowed w.declared f.accounts_high buys sells trades forbids o.account o.contract (orderRefusals x o) a b (ap not (sym takes_is ∙ e)))
+      unfolding code_of kind_of insert_refusals
+      code_order e h = h ∙ sym (allowed w.declared f.accounts_high buys sells trades forbids o.account o.contract (order_refusals x o) a b (ap not (sym takes_is ∙ e)))
 
   -- ---- an order whose account and contract are in use
 
@@ -135,12 +135,12 @@ module _ {s : State} {buys sells trades : List ℕ} (w : WellFormedState s buys 
     pub terms_in_range_lem : terms_in_range terms ≡ true
     terms_in_range_lem = rw is (contract_terms m f c p.contract)
 
-    terms_is : (listingOf x o).contract ≡ terms
-    unfolding listingOf
+    terms_is : (listing_of x o).contract ≡ terms
+    unfolding listing_of
     terms_is = rw is (contract_is m f c p.contract)
 
     -- 5 to 7
-    pub fields_are : {conditions : Bool} → conditions ≡ conditionsRefused terms o → {fields : ℕ} → fields ≡ first_of (fieldsRefusals conditions terms o) → fields ≡ first_of fields_part
+    pub fields_are : {conditions : Bool} → conditions ≡ conditions_refused terms o → {fields : ℕ} → fields ≡ first_of (fields_refusals conditions terms o) → fields ≡ first_of fields_part
     fields_are en et = et ∙ rw (en, terms_is) refl
 
     -- 8
@@ -157,8 +157,8 @@ module _ {s : State} {buys sells trades : List ℕ} (w : WellFormedState s buys 
         pub rested_low : rested ≤ max_limit
         rested_low = rw rested_is (resting_low m f c p.contract (place_of o.account) p.account o.sell o.close)
 
-        pub lots_are : {who : Account} → get_or s.accounts (place_of o.account) no_account ≡ who → {r : Bool} → r ≡ lotsRefused terms (get_or who.holdings place no_holding) rested o → r ≡ holdingRefused x o
-        unfolding holdingRefused listingOf holding_at account_at
+        pub lots_are : {who : Account} → get_or s.accounts (place_of o.account) no_account ≡ who → {r : Bool} → r ≡ lots_refused terms (get_or who.holdings place no_holding) rested o → r ≡ holding_refused x o
+        unfolding holding_refused listing_of holding_at account_at
         lots_are ew el =
             el ∙ rw (rested_is, ← ew, is, contract_is m f c p.contract, side_is m f c p.contract o.sell, holding_at_lem m f (place_of o.account) c p.account p.contract) refl
 
@@ -167,28 +167,28 @@ module _ {s : State} {buys sells trades : List ℕ} (w : WellFormedState s buys 
       pub opposite_room : QueueRoom area (place_of o.contract) count
       opposite_room = rw (ec, ea, is) (side_room m f c p.contract (not o.sell))
 
-      module _ (number : ℕ) {t : Taker} (et : t ≡ takerFor number 0 s.nextstamp terms (queue_in area (place_of o.contract) count) o) where
+      module _ (number : ℕ) {t : Taker} (et : t ≡ taker_for number 0 s.nextstamp terms (queue_in area (place_of o.contract) count) o) where
         pub facing : Facing t area place count
         facing = rw (et, ec, ea, is) (opposite_facing m f c p.contract number 0 s.nextstamp _ o)
 
-        opposite_queue : oppositeQueue x o ≡ queue_in area place count
-        unfolding listingOf
-        opposite_queue = rw (ec, ea, is) (opposite_is m f c p.contract o.sell)
+        opposite_queue_lem : opposite_queue x o ≡ queue_in area place count
+        unfolding listing_of
+        opposite_queue_lem = rw (ec, ea, is) (opposite_is m f c p.contract o.sell)
 
         taker_is : taker_of x number 0 o ≡ t
         unfolding taker_of exchange_of
-        taker_is = rw (et, opposite_queue, terms_is, is) refl
+        taker_is = rw (et, opposite_queue_lem, terms_is, is) refl
 
         -- 12 with that number
-        pub trades_are : {r : Bool} → r ≡ noRoomFor s.tradecount (tradesAgainst terms t o.lots (queue_in area place count)) → r ≡ tradesRefused x number o
-        unfolding tradesRefused tradesNeeded
-        trades_are er = er ∙ rw (trades_count m f, opposite_queue, taker_is, terms_is) refl
+        pub trades_are : {r : Bool} → r ≡ no_room_for s.tradecount (trades_against terms t o.lots (queue_in area place count)) → r ≡ trades_refused x number o
+        unfolding trades_refused trades_needed
+        trades_are er = er ∙ rw (trades_count m f, opposite_queue_lem, taker_is, terms_is) refl
 
       -- the number and the time stamp, read with the contract
-      pub taker_here : {l : Listed} → l ≡ listed_in s place → {t : Taker} (queue : List Order) → t ≡ takerFor l.next 0 l.nextstamp terms queue o → t ≡ takerFor s.next 0 s.nextstamp terms queue o
+      pub taker_here : {l : Listed} → l ≡ listed_in s place → {t : Taker} (queue : List Order) → t ≡ taker_for l.next 0 l.nextstamp terms queue o → t ≡ taker_for s.next 0 s.nextstamp terms queue o
       taker_here el queue et = et ∙ rw el refl
 
-      pub meets : {l : Listed} → l ≡ listed_in s place → {t : Taker} → t ≡ takerFor s.next 0 s.nextstamp terms (queue_in area (place_of o.contract) count) o
+      pub meets : {l : Listed} → l ≡ listed_in s place → {t : Taker} → t ≡ taker_for s.next 0 s.nextstamp terms (queue_in area (place_of o.contract) count) o
           → {own₁ : ℕ} → own₁ ≡ side_count o.sell s place → MeetsQueue x o l terms own₁ t (queue_in area place count)
       unfolding exchange_of
       meets el et eo =
@@ -199,9 +199,9 @@ module _ {s : State} {buys sells trades : List ℕ} (w : WellFormedState s buys 
             recorded = trades_count m f;
             contract = terms_is;
             own_side = own_length eo;
-            opposite_side = opposite_queue s.next et;
+            opposite_side = opposite_queue_lem s.next et;
             taker = taker_is s.next et;
           })
         where
-          own_length : {own₁ : ℕ} → own₁ ≡ side_count o.sell s place → length (ownQueue x o) ≡ own₁
-          own_length eo = unfold listingOf in rw (eo, is, side_is m f c p.contract o.sell, length_queue) refl
+          own_length : {own₁ : ℕ} → own₁ ≡ side_count o.sell s place → length (own_queue x o) ≡ own₁
+          own_length eo = unfold listing_of in rw (eo, is, side_is m f c p.contract o.sell, length_queue) refl

@@ -7,7 +7,7 @@ use Prim.Native.Nat.{ℕ, ◌<◌, ◌≤◌}
 use native.Mathlib.Omega.{arith}
 use lib.ListN.{length, get_or}
 use Rattle.laws.specs.Choice.{all_of, all_of_at}
-use Rattle.rules.specs.Answers.{mark, takerFor}
+use Rattle.rules.specs.Answers.{mark, taker_for}
 use Rattle.rules.specs.Bounds.{terms_in_range, max_resting, max_limit}
 use Rattle.rules.specs.Exchange.{Exchange, Listing, holding_at, listing_at, no_contract, no_order, opposite, own, resting}
 use Rattle.rules.specs.Memory.{Memory, exchange_of, listing_in, queue_in, first_word}
@@ -60,7 +60,7 @@ module _ (m : Memory) (f : Formed m) (c : ℕ) (h : c < m.state.contractcount) w
   side_sorted side = rw (← side_is side) (listing.order side)
 
   -- an order meets the queue opposite it, best price first
-  pub opposite_facing : (number quote stamp : ℕ) (terms : Contract) (o : NewOrder) → Facing (takerFor number quote stamp terms (queue_of (not o.sell)) o) (side_area (not o.sell) m.buys m.sells) c (side_count (not o.sell) m.state c)
+  pub opposite_facing : (number quote stamp : ℕ) (terms : Contract) (o : NewOrder) → Facing (taker_for number quote stamp terms (queue_of (not o.sell)) o) (side_area (not o.sell) m.buys m.sells) c (side_count (not o.sell) m.state c)
   opposite_facing number quote stamp terms o = record { queue = side_room (not o.sell); order = side_sorted (not o.sell); best = refl }
 
   pub side_account : (side : Bool) (i : ℕ) → i < side_count side m.state c → (get_or (queue_of side) i no_order).account < m.state.accountcount

@@ -1,6 +1,6 @@
 -- An arriving order as the code reads it: the queue that it meets, its account and contract in use. Assumes nothing.
 use Rattle.std.specs.Prelude.{true, false, not, List, ◌≡◌, ℕ, ◌<◌, ◌≤◌, length}
-use Rattle.rules.specs.Answers.{listingOf, namedRefusals, notContinuous, oppositeQueue, ownQueue, taker_of}
+use Rattle.rules.specs.Answers.{listing_of, named_refusals, not_continuous, opposite_queue, own_queue, taker_of}
 use Rattle.rules.specs.Bounds.{max_resting}
 use Rattle.rules.specs.Exchange.{Exchange, best_price, is_absent, place_of}
 use Rattle.rules.specs.Memory.{queue_in, first_word}
@@ -29,9 +29,9 @@ pub record MeetsQueue (x : Exchange) (o : NewOrder) (l : Listed) (terms : Contra
   pub next : x.next ≡ l.next
   pub nextstamp : x.nextstamp ≡ l.nextstamp
   pub recorded : length x.trades ≡ l.recorded
-  pub contract : (listingOf x o).contract ≡ terms
-  pub own_side : length (ownQueue x o) ≡ own
-  pub opposite_side : oppositeQueue x o ≡ queue
+  pub contract : (listing_of x o).contract ≡ terms
+  pub own_side : length (own_queue x o) ≡ own
+  pub opposite_side : opposite_queue x o ≡ queue
   pub taker : taker_of x x.next 0 o ≡ t
 
 -- an order whose account and contract are in use
@@ -43,5 +43,5 @@ pub record Present (s : State) (o : NewOrder) : Type 0 where
 
 -- 2, 3 and 4 of a kind "in continuous only"; code 0 says that its account is in use
 pub record ContinuousIs (s : State) (account contract code : ℕ) : Type 0 where
-  pub first : CodeIn s (λ x. namedRefusals x notContinuous account contract) code
+  pub first : CodeIn s (λ x. named_refusals x not_continuous account contract) code
   pub account_in_use_lem : code ≡ 0 → is_absent account s.accountcount ≡ false

@@ -24,7 +24,7 @@ use rules::{
 
 // 4: "Insert needs continuous.", and auction.
 fn takes_orders(terms: Contract) -> bool
-    ensures { result ≡ answer.takesOrders terms }
+    ensures { result ≡ answer.takes_orders terms }
 {
     if terms.phase == CONTINUOUS {
         return true;
@@ -34,7 +34,7 @@ fn takes_orders(terms: Contract) -> bool
 
 // 6: "market or best with good for day". Another crate asks for it too.
 pub fn is_day_without_limit(condition: PriceCondition, time: TimeCondition) -> bool
-    ensures { result ≡ answer.dayWithoutLimit condition time }
+    ensures { result ≡ answer.day_without_limit condition time }
 {
     if orders::is_limit(condition) {
         return false;
@@ -44,7 +44,7 @@ pub fn is_day_without_limit(condition: PriceCondition, time: TimeCondition) -> b
 
 // Whether an order is limit good for day.
 fn is_limit_day(condition: PriceCondition, time: TimeCondition) -> bool
-    ensures { result ≡ (answer.isLimit condition && answer.isGoodForDay time) }
+    ensures { result ≡ (answer.is_limit condition && answer.is_good_for_day time) }
 {
     if !orders::is_limit(condition) {
         return false;
@@ -54,7 +54,7 @@ fn is_limit_day(condition: PriceCondition, time: TimeCondition) -> bool
 
 // 6 of an insert: in auction any order that is not limit good for day.
 fn conditions_refused(terms: Contract, o: NewOrder) -> bool
-    ensures { result ≡ answer.conditionsRefused terms o }
+    ensures { result ≡ answer.conditions_refused terms o }
 {
     let condition = o.condition;
     let time = o.time;
@@ -67,7 +67,7 @@ fn conditions_refused(terms: Contract, o: NewOrder) -> bool
 // 7: a limit must be allowed today, market and best have no price.
 fn price_refused(terms: Contract, condition: PriceCondition, price: u32) -> bool
     requires { terms_in_range terms ≡ true }
-    ensures { result ≡ answer.priceRefusedBy terms condition price }
+    ensures { result ≡ answer.price_refused_by terms condition price }
 {
     match condition {
         PriceCondition::Limit(limit) => !terms::allowed_today(terms, limit),
@@ -80,7 +80,7 @@ fn price_refused(terms: Contract, condition: PriceCondition, price: u32) -> bool
 // for it too.
 pub fn fields_code(terms: Contract, conditions: bool, o: NewOrder) -> u32
     requires { terms_in_range terms ≡ true }
-    ensures { result ≡ answer.first_of (answer.fieldsRefusals conditions terms o) }
+    ensures { result ≡ answer.first_of (answer.fields_refusals conditions terms o) }
 {
     let condition = o.condition;
     if !terms::within(1, rules::MAX_LOTS, o.lots) {
@@ -99,7 +99,7 @@ pub fn fields_code(terms: Contract, conditions: bool, o: NewOrder) -> u32
 // `rested` are the account's resting lots on the order's side, opens of an open and closes of a close.
 fn lots_refused(terms: Contract, h: Holding, rested: u64, o: NewOrder) -> bool
     requires { rested ≤ max_limit }
-    ensures { result ≡ answer.lotsRefused terms h rested o }
+    ensures { result ≡ answer.lots_refused terms h rested o }
 {
     let lots = laws::wide64(o.lots);
     let close = o.close;
@@ -122,7 +122,7 @@ fn money_refused<'a>(
     o: NewOrder,
 ) -> bool
     requires { WellFormedState state buys.now sells.now trades.now × Present state o × (o.lots ≤ max_lots) × (get_or state.accounts (place_of o.account) no_account ≡ who) }
-    ensures { result ≡ answer.moneyRefused (exchange_of (memory state buys.now sells.now trades.now)) o }
+    ensures { result ≡ answer.money_refused (exchange_of (memory state buys.now sells.now trades.now)) o }
 {
     if o.close {
         return false;
@@ -158,7 +158,7 @@ fn account_code<'a>(
     o: NewOrder,
 ) -> u32
     requires { WellFormedState state buys.now sells.now trades.now × Present state o × (o.lots ≤ max_lots) × (get_or state.accounts (place_of o.account) no_account ≡ who) }
-    ensures { result ≡ answer.first_of (answer.accountRefusals (exchange_of (memory state buys.now sells.now trades.now)) o) }
+    ensures { result ≡ answer.first_of (answer.account_refusals (exchange_of (memory state buys.now sells.now trades.now)) o) }
 {
     let c = laws::place_of(o.contract);
     let contracts = state.contracts;
@@ -200,7 +200,7 @@ fn kill_refused(
     time: TimeCondition,
 ) -> bool
     requires { Facing t area.now c count }
-    ensures { result ≡ answer.killRefused (matching.fillable t (queue_in area.now c count)) lots time }
+    ensures { result ≡ answer.kill_refused (matching.fillable t (queue_in area.now c count)) lots time }
 {
     if !orders::is_kill(time) {
         return false;
@@ -220,7 +220,7 @@ fn trades_refused(
     lots: u32,
 ) -> bool
     requires { QueueRoom area.now c count × (recorded ≤ max_trades) }
-    ensures { result ≡ answer.noRoomFor recorded (answer.tradesAgainst terms t lots (queue_in area.now c count)) }
+    ensures { result ≡ answer.no_room_for recorded (answer.trades_against terms t lots (queue_in area.now c count)) }
 {
     if terms.phase == AUCTION {
         return false;
@@ -244,7 +244,7 @@ fn full_refused(
     time: TimeCondition,
 ) -> bool
     requires { Facing t area.now c count }
-    ensures { result ≡ answer.fullRefused auction own (matching.fillable t (queue_in area.now c count)) lots time }
+    ensures { result ≡ answer.full_refused auction own (matching.fillable t (queue_in area.now c count)) lots time }
 {
     if !orders::is_day(time) {
         return false;
@@ -281,7 +281,7 @@ fn book_code(
     o: NewOrder,
 ) -> u32
     requires { Facing t area.now c count × (listed.recorded ≤ max_trades) }
-    ensures { (x : Exchange) → MeetsQueue x o listed terms own t (queue_in area.now c count) → result ≡ answer.first_of (answer.bookRefusals x o) }
+    ensures { (x : Exchange) → MeetsQueue x o listed terms own t (queue_in area.now c count) → result ≡ answer.first_of (answer.book_refusals x o) }
 {
     let time = o.time;
     let lots = o.lots;
@@ -312,7 +312,7 @@ pub fn order_code<'a>(
     o: NewOrder,
 ) -> u32
     requires { WellFormedState state buys.now sells.now trades.now × Present state o × (get_or state.accounts (place_of o.account) no_account ≡ who) }
-    ensures { result ≡ answer.first_of (answer.orderRefusals (exchange_of (memory state buys.now sells.now trades.now)) o) }
+    ensures { result ≡ answer.first_of (answer.order_refusals (exchange_of (memory state buys.now sells.now trades.now)) o) }
 {
     let c = laws::place_of(o.contract);
     let contracts = state.contracts;

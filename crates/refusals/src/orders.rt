@@ -14,7 +14,7 @@ ghost use Rattle.refusals.specs.Insertion.{QueueRoom};
 use rules::{Contract, NewOrder, PairingMethod, PriceCondition, State, Taker, TimeCondition};
 
 pub fn is_limit(condition: PriceCondition) -> bool
-    ensures { result ≡ answer.isLimit condition }
+    ensures { result ≡ answer.is_limit condition }
 {
     match condition {
         PriceCondition::Limit(_) => true,
@@ -24,7 +24,7 @@ pub fn is_limit(condition: PriceCondition) -> bool
 }
 
 pub fn is_day(time: TimeCondition) -> bool
-    ensures { result ≡ answer.isGoodForDay time }
+    ensures { result ≡ answer.is_good_for_day time }
 {
     match time {
         TimeCondition::GoodForDay => true,
@@ -34,7 +34,7 @@ pub fn is_day(time: TimeCondition) -> bool
 }
 
 pub fn is_kill(time: TimeCondition) -> bool
-    ensures { result ≡ answer.isFillOrKill time }
+    ensures { result ≡ answer.is_fill_or_kill time }
 {
     match time {
         TimeCondition::GoodForDay => false,
@@ -77,7 +77,7 @@ pub fn day_limit(
     lots: u32,
     price: u32,
 ) -> NewOrder
-    ensures { result ≡ answer.dayLimitOrder account contract sell close lots price }
+    ensures { result ≡ answer.day_limit_order account contract sell close lots price }
 {
     NewOrder {
         account,
@@ -151,7 +151,7 @@ pub fn taker_of(
     o: NewOrder,
 ) -> Taker
     requires { (1 ≤ o.account) × (1 ≤ o.contract) × QueueRoom area.now (exchange.place_of o.contract) count }
-    ensures { result ≡ answer.takerFor number quote stamp terms (queue_in area.now (exchange.place_of o.contract) count) o }
+    ensures { result ≡ answer.taker_for number quote stamp terms (queue_in area.now (exchange.place_of o.contract) count) o }
 {
     let c = laws::place_of(o.contract);
     let best = best_price(area, c, count);

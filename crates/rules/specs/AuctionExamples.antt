@@ -3,7 +3,7 @@
 use Rattle.std.specs.Prelude.{true, false, List, [], ◌∷◌, ◌≡◌, refl, ℕ, pos, length, get_or}
 use Rattle.laws.specs.Sums.{sum_of}
 use Rattle.rules.specs.Auction.{Matched, auction_match, auction_price, best_from, best_of, better, chosen_price, lots_reaching, match_at, match_in, match_of, prices, surplus, trade_at, volume}
-use Rattle.rules.specs.Answers.{changeListed, first_of, listingOf, mark, phaseRefusals, taker_of}
+use Rattle.rules.specs.Answers.{change_listed, first_of, listing_of, mark, phase_refusals, taker_of}
 use Rattle.rules.specs.Bounds.{auction, continuous, no_trading}
 use Rattle.rules.specs.Condition3.{made_by}
 use Rattle.rules.specs.Examples.{Row, ◌gives◌, all_right}
@@ -241,7 +241,7 @@ table =
     ∷ []
 
 pub auction_examples : all_right table ≡ true
-unfolding all_right table order buys001 sells001 buys000 sells000 buys_tie sells_tie buys_signed sells_signed buys_apart price_of lots_of buy_of sell_of of account listing asked entered changed bid auction_left deep counted after holding account_at after_leg book_leg book_trade book_trades holding_at listing_at last_price sum_of lots_where best_price stays traded_lots prices lots_reaching volume surplus better best_from best_of chosen_price auction_price trade_at match_in match_at auction_match match_of listingOf taker_of enter meets method_of middle paired_price remainder rest_in rest_lots rest_whole rested_lots sweep trade_price trade_with entered_of listing_matched exchange_matched phase_changed kind_of made_by
+unfolding all_right table order buys001 sells001 buys000 sells000 buys_tie sells_tie buys_signed sells_signed buys_apart price_of lots_of buy_of sell_of of account listing asked entered changed bid auction_left deep counted after holding account_at after_leg book_leg book_trade book_trades holding_at listing_at last_price sum_of lots_where best_price stays traded_lots prices lots_reaching volume surplus better best_from best_of chosen_price auction_price trade_at match_in match_at auction_match match_of listing_of taker_of enter meets method_of middle paired_price remainder rest_in rest_lots rest_whole rested_lots sweep trade_price trade_with entered_of listing_matched exchange_matched phase_changed kind_of made_by
 auction_examples = refl
 
 -- "appear after the state command's C line, whose traded field is their lots": C 7 0 0 9 0, then T 2 1 112 7 3 1 and T 3 1 112 2 3 2
@@ -250,5 +250,5 @@ auction_lines :
     ≡ 67 ∷ 32 ∷ 55 ∷ 32 ∷ 48 ∷ 32 ∷ 48 ∷ 32 ∷ 57 ∷ 32 ∷ 48 ∷ 10
     ∷ 84 ∷ 32 ∷ 50 ∷ 32 ∷ 49 ∷ 32 ∷ 49 ∷ 49 ∷ 50 ∷ 32 ∷ 55 ∷ 32 ∷ 51 ∷ 32 ∷ 49 ∷ 10
     ∷ 84 ∷ 32 ∷ 51 ∷ 32 ∷ 49 ∷ 32 ∷ 49 ∷ 49 ∷ 50 ∷ 32 ∷ 50 ∷ 32 ∷ 51 ∷ 32 ∷ 50 ∷ 10 ∷ []
-unfolding step_lines answer_line trade_line trade_lines new_trades settlement_lines decimal digits fields_of step decide code_of kind_of first_of phaseRefusals changeListed absent deep order listing account account_at after_leg book_leg book_trade book_trades holding_at listing_at last_price sum_of lots_where stays traded_lots prices lots_reaching volume surplus better best_from best_of chosen_price trade_at match_in match_at auction_match match_of listing_matched exchange_matched phase_changed
+unfolding step_lines answer_line trade_line trade_lines new_trades settlement_lines decimal digits fields_of step decide code_of kind_of first_of phase_refusals change_listed absent deep order listing account account_at after_leg book_leg book_trade book_trades holding_at listing_at last_price sum_of lots_where stays traded_lots prices lots_reaching volume surplus better best_from best_of chosen_price trade_at match_in match_at auction_match match_of listing_matched exchange_matched phase_changed
 auction_lines = refl

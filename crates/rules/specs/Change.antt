@@ -1,7 +1,7 @@
 -- Changing a resting order (document 02, ticket 8; 001, 4.1.2.3). Assumes nothing.
 use Rattle.std.specs.Prelude.{Bool, not, ◌&&◌, ◌||◌, List, [], ◌∷◌, ◌++◌, ℕ, ltb, eqb, get_or}
 use Rattle.laws.specs.Choice.{pick}
-use Rattle.rules.specs.Answers.{Refusal, ◌when◌, dayLimitOrder, numbered, restingOrder, noSuchOrder, namedRefusals, notContinuous, ownerRefusals, accountRefusals, stampsUsedUp, tradesRefused}
+use Rattle.rules.specs.Answers.{Refusal, ◌when◌, day_limit_order, numbered, resting_order, no_such_order, named_refusals, not_continuous, owner_refusals, account_refusals, stamps_used_up, trades_refused}
 use Rattle.rules.specs.Bounds.{allowed_today, max_lots}
 use Rattle.rules.specs.Exchange.{Exchange, Listing, listing_named, place_of, no_order}
 use Rattle.rules.specs.Matching.{Entered, traded_lots, with_lots}
@@ -25,10 +25,10 @@ asked account contract number lots price =
 
 -- the order as it rests, and its side: a sell where it is not among the buys
 unfoldable pub old_order : Exchange → Asked → Order
-old_order x k = get_or (restingOrder (listing_named x k.contract) k.number) 0 no_order
+old_order x k = get_or (resting_order (listing_named x k.contract) k.number) 0 no_order
 
 unfoldable pub is_sell : Exchange → Asked → Bool
-is_sell x k = noSuchOrder (numbered k.number (listing_named x k.contract).buys)
+is_sell x k = no_such_order (numbered k.number (listing_named x k.contract).buys)
 
 -- "fewer lots keep the place in the queue; more lots or another price lose it"
 abbrev pub loses : Order → ℕ → ℕ → Bool
@@ -44,7 +44,7 @@ gone x k = with_listing x (place_of k.contract) (listing_without (has_number k.n
 
 -- "then matched at once": it arrives as a good-for-day limit order of its account, on its side, to open or close as before
 unfoldable pub arriving : Exchange → Asked → NewOrder
-arriving x k = dayLimitOrder k.account k.contract (is_sell x k) (eqb (old_order x k).close 1) k.lots k.price
+arriving x k = day_limit_order k.account k.contract (is_sell x k) (eqb (old_order x k).close 1) k.lots k.price
 
 -- "The number stays." "In a quote, any other change of an order drops that order's mark."
 unfoldable pub reentered : Exchange → Asked → Entered
@@ -64,15 +64,15 @@ new_fields_refusals terms lots price =
 -- "8, 9, 10 (stamps used up ..) and 12", of an order that arrives again with its number
 abbrev pub reentry_refusals : Exchange → ℕ → NewOrder → List Refusal
 reentry_refusals x number o =
-    accountRefusals x o
-    ++ (10 when stampsUsedUp x)
-    ∷ (12 when tradesRefused x number o)
+    account_refusals x o
+    ++ (10 when stamps_used_up x)
+    ∷ (12 when trades_refused x number o)
     ∷ []
 
 unfoldable pub change_refusals : Exchange → Asked → List Refusal
 change_refusals x k =
-    namedRefusals x notContinuous k.account k.contract
-    ++ ownerRefusals (place_of k.account) (restingOrder (listing_named x k.contract) k.number)
+    named_refusals x not_continuous k.account k.contract
+    ++ owner_refusals (place_of k.account) (resting_order (listing_named x k.contract) k.number)
     ++ new_fields_refusals (listing_named x k.contract).contract k.lots k.price
     -- "where the place is lost", "tested as though the old order were gone"
     ++ pick (loses_place x k) (reentry_refusals (gone x k) k.number (arriving x k)) []

@@ -3,7 +3,7 @@
 use Rattle.std.specs.Prelude.{true, List, [], ◌∷◌, ◌≡◌, refl, ℕ, ◌+◌, pos, length, get_or, replicate}
 use Rattle.laws.specs.Sums.{sum_of}
 use Rattle.laws.specs.Tabulate.{tabulate}
-use Rattle.rules.specs.Answers.{first_of, holdingRefused, listingOf, moneyRefused, noSuchOrder, numbered, ofAnother, restingOrder, taker_of, tradesNeeded, tradesRefused, lotsRefused, tradesAgainst}
+use Rattle.rules.specs.Answers.{first_of, holding_refused, listing_of, money_refused, no_such_order, numbered, of_another, resting_order, taker_of, trades_needed, trades_refused, lots_refused, trades_against}
 use Rattle.rules.specs.Bounds.{allowed_today, auction, closed, continuous, day_high, day_low, no_trading, on_tick, pre_open}
 use Rattle.rules.specs.Change.{Asked, arriving, asked, change_refusals, change_trades, changed, gone, is_sell, lessened, loses_place, old_order, place_kept, place_lost, reentered, unchanged}
 use Rattle.rules.specs.Examples.{Row, ◌gives◌, all_right}
@@ -105,7 +105,7 @@ codes =
     ∷ []
 
 pub change_codes : all_right codes ≡ true
-unfolding all_right codes order account contract state code open' used_up absent account_at after_leg allowed_today arriving best_price book_leg change_refusals charge_of charged_lots charged_to day_high day_low first_of gone holding_at holdingRefused is_sell listing_at listingOf loses_place lots_where meets method_of middle moneyRefused noSuchOrder numbered ofAnother old_order on_tick lotsRefused tradesAgainst paired_price resting restingOrder stays sum_of sweep tabulate taker_of trade_price trade_with tradesNeeded tradesRefused without
+unfolding all_right codes order account contract state code open' used_up absent account_at after_leg allowed_today arriving best_price book_leg change_refusals charge_of charged_lots charged_to day_high day_low first_of gone holding_at holding_refused is_sell listing_at listing_of loses_place lots_where meets method_of middle money_refused no_such_order numbered of_another old_order on_tick lots_refused trades_against paired_price resting resting_order stays sum_of sweep tabulate taker_of trade_price trade_with trades_needed trades_refused without
 change_codes = refl
 
 -- ---- effects. Account 1 offers 7 at 110 (number 1) before account 2's 3 at 110 (number 2) and 1 at 112 (number 3); account 2 bids
@@ -219,5 +219,5 @@ effects =
     ∷ []
 
 pub change_effects : all_right effects ≡ true
-unfolding all_right effects order account contract book to buy_to close_to after buy_at sell_at holding_at trade_at' answered field account_at after_leg arriving best_price book_leg book_trade book_trades cancelled change_trades changed enter entered_of exchange_after gone is_sell last_price lessened listing_after listing_at listingOf loses_place lots_where meets method_of middle noSuchOrder numbered old_order paired_price place_kept place_lost reentered remainder removed rest_in rest_lots rested_lots restingOrder stays sum_of sweep taker_of trade_price trade_with traded_lots unchanged without
+unfolding all_right effects order account contract book to buy_to close_to after buy_at sell_at holding_at trade_at' answered field account_at after_leg arriving best_price book_leg book_trade book_trades cancelled change_trades changed enter entered_of exchange_after gone is_sell last_price lessened listing_after listing_at listing_of loses_place lots_where meets method_of middle no_such_order numbered old_order paired_price place_kept place_lost reentered remainder removed rest_in rest_lots rested_lots resting_order stays sum_of sweep taker_of trade_price trade_with traded_lots unchanged without
 change_effects = refl

@@ -4,7 +4,7 @@ use Rattle.std.specs.Prelude.{Bool, true, false, List, [], ◌∷◌, ◌≡◌,
 use Rattle.laws.specs.Choice.{all, all_of}
 use Rattle.laws.specs.Sums.{sum_of}
 use Rattle.laws.specs.Tabulate.{tabulate}
-use Rattle.rules.specs.Answers.{amountRefused, cancelRefusals, changeListed, depositRefusals, fillableLots, first_of, insertRefusals, leavesTooLittle, liftsTooHigh, listingOf, holdingRefused, mark, moneyRefused, noSuchOrder, numbered, ofAnother, phaseRefusals, priceRefusedBy, pullRefusals, removalRefused, restingOrder, settleRefusals, taker_of, tradesNeeded, tradesRefused, withdrawRefusals, conditionsRefused, takesOrders, orderRefusals, lotsRefused, tradesAgainst}
+use Rattle.rules.specs.Answers.{amount_refused, cancel_refusals, change_listed, deposit_refusals, fillable_lots, first_of, insert_refusals, leaves_too_little, lifts_too_high, listing_of, holding_refused, mark, money_refused, no_such_order, numbered, of_another, phase_refusals, price_refused_by, pull_refusals, removal_refused, resting_order, settle_refusals, taker_of, trades_needed, trades_refused, withdraw_refusals, conditions_refused, takes_orders, order_refusals, lots_refused, trades_against}
 use Rattle.rules.specs.Bounds.{allowed_today, day_high, day_low, on_tick, auction, closed, continuous, no_trading, pre_open}
 use Rattle.rules.specs.Auction.{auction_match, best_from, best_of, better, chosen_price, lots_reaching, match_at, match_in, match_of, prices, surplus, trade_at, volume}
 use Rattle.rules.specs.Change.{change_refusals}
@@ -79,7 +79,7 @@ balanced balance =
 
 -- to which of the states 0 to 4 one may be changed: five digits, 1 where it may
 changes_from : ℕ → ℕ
-changes_from from = sum_of (λ to. mark (changeListed from to) * 10 ^ (4 - to)) (0 ∷ 1 ∷ 2 ∷ 3 ∷ 4 ∷ [])
+changes_from from = sum_of (λ to. mark (change_listed from to) * 10 ^ (4 - to)) (0 ∷ 1 ∷ 2 ∷ 3 ∷ 4 ∷ [])
 
 -- the contract in auction, a buy of 9 at 112 resting too, so many trades made: its match makes two trades
 crossed : ℕ → Exchange
@@ -280,5 +280,5 @@ codes =
     ∷ []
 
 pub code_examples : all_right codes ≡ true
-unfolding all_right codes contract order rich poor asked open' stamps balanced changes_from buy sell raw paying absent account_at after_leg all all_of allowed_today amountRefused best_price bits book_leg cancel_of cancelRefusals changeListed change_of change_refusals charge_of charged_lots charged_to code_of command_of day_high day_low deposit_of depositRefusals fillable fillableLots first_of holding_at insert_flags insert_of insertRefusals kind_of leavesTooLittle liftsTooHigh listing_at listingOf holdingRefused lots_where meets method_of middle paired_price moneyRefused new_order noSuchOrder numbered ofAnother on_tick lotsRefused tradesAgainst phase_of phaseRefusals price_condition priceRefusedBy pull_of pullRefusals removalRefused resting restingOrder settle_of settleRefusals stays sum_of sweep tabulate taker_of time_condition trade_price trade_with tradesNeeded tradesRefused withdraw_of withdrawRefusals zeros crossed auction_match best_from best_of better chosen_price conditionsRefused lots_reaching match_at match_in match_of prices surplus takesOrders trade_at volume orderRefusals
+unfolding all_right codes contract order rich poor asked open' stamps balanced changes_from buy sell raw paying absent account_at after_leg all all_of allowed_today amount_refused best_price bits book_leg cancel_of cancel_refusals change_listed change_of change_refusals charge_of charged_lots charged_to code_of command_of day_high day_low deposit_of deposit_refusals fillable fillable_lots first_of holding_at insert_flags insert_of insert_refusals kind_of leaves_too_little lifts_too_high listing_at listing_of holding_refused lots_where meets method_of middle paired_price money_refused new_order no_such_order numbered of_another on_tick lots_refused trades_against phase_of phase_refusals price_condition price_refused_by pull_of pull_refusals removal_refused resting resting_order settle_of settle_refusals stays sum_of sweep tabulate taker_of time_condition trade_price trade_with trades_needed trades_refused withdraw_of withdraw_refusals zeros crossed auction_match best_from best_of better chosen_price conditions_refused lots_reaching match_at match_in match_of prices surplus takes_orders trade_at volume order_refusals
 code_examples = refl

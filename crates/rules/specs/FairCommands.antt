@@ -1,7 +1,7 @@
 -- LAWS 8 TO 13 OF A COMMAND (Fairness, AuctionFairness): `FairMatching` and `FairAuction`, of the state that it meets, the command and the state
 -- that it leaves. Proved of every command on a well-formed state in invariants (proofs/FairCommands). Assumes nothing.
 use Rattle.std.specs.Prelude.{Bool, true, false, not, List, ◌++◌, ◌≡◌, ℕ, ◌+◌}
-use Rattle.rules.specs.Answers.{listingOf, oppositeQueue, ownQueue, taker_of}
+use Rattle.rules.specs.Answers.{listing_of, opposite_queue, own_queue, taker_of}
 use Rattle.rules.specs.Auction.{Matched, auction_match}
 use Rattle.rules.specs.AuctionFairness.{BestAuction, LargestVolume, left_on}
 use Rattle.rules.specs.Bounds.{in_auction}
@@ -55,18 +55,18 @@ abbrev pub taker_by : Entering → Taker
 taker_by a = taker_of a.state a.number a.quote a.order
 
 abbrev pub in_auction_for : Entering → Bool
-in_auction_for a = in_auction (listingOf a.state a.order).contract
+in_auction_for a = in_auction (listing_of a.state a.order).contract
 
 -- the queue that it trades with
 abbrev pub queue_met : Entering → List Order
-queue_met a = oppositeQueue a.state a.order
+queue_met a = opposite_queue a.state a.order
 
 -- laws 8 to 11 of it, where it leaves y
 pub record FairlyEntered (a : Entering) (y : Exchange) : Type 0 where
   -- what it leaves in the book and records is what the laws speak of
   pub leaves : y ≡ after_entering a
-  pub own_queue : ownQueue y a.order ≡ (entered_from a).own
-  pub opposite_queue : oppositeQueue y a.order ≡ (entered_from a).opposite
+  pub own_queue_lem : own_queue y a.order ≡ (entered_from a).own
+  pub opposite_queue_lem : opposite_queue y a.order ≡ (entered_from a).opposite
   pub recorded : y.trades ≡ a.state.trades ++ (entered_from a).trades
   -- 8. price then time
   pub priority : PriceThenTime (not a.order.sell) (queue_met a) (entered_from a).opposite (entered_from a).trades
@@ -76,7 +76,7 @@ pub record FairlyEntered (a : Entering) (y : Exchange) : Type 0 where
   pub limits : AtLimitOrBetter (taker_by a) (queue_met a) (entered_from a).trades
   -- 11. every lot is accounted for, of the queue and of the order
   pub accounted : LotsAccounted (not a.order.sell) (queue_met a) (entered_from a).opposite (entered_from a).trades
-  pub order : OrderAccounted (taker_by a) (in_auction_for a) a.order (ownQueue a.state a.order) (queue_met a) (entered_from a)
+  pub order : OrderAccounted (taker_by a) (in_auction_for a) a.order (own_queue a.state a.order) (queue_met a) (entered_from a)
 
 -- LAWS 8 TO 11 OF A COMMAND on x that leaves y
 pub record FairMatching (x : Exchange) (command : Command) (y : Exchange) : Type 0 where

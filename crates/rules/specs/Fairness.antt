@@ -3,7 +3,7 @@
 use Rattle.std.specs.Prelude.{Bool, true, false, not, List, ◌≡◌, ℕ, ◌+◌, ◌<◌, ◌≤◌, min, eqb, length, get_or}
 use Rattle.laws.specs.Choice.{pick, all_of}
 use Rattle.laws.specs.Sums.{sum_of}
-use Rattle.rules.specs.Answers.{isGoodForDay, isLimit}
+use Rattle.rules.specs.Answers.{is_good_for_day, is_limit}
 use Rattle.rules.specs.Exchange.{best_price, lots_where, no_order, no_trade, worse}
 use Rattle.rules.specs.Matching.{Entered, counterpart, fillable, traded_lots}
 use Rattle.rules.specs.WellFormed.{ahead}
@@ -89,7 +89,7 @@ pub record AtLimitOrBetter (t : Taker) (queue : List Order) (trades : List Trade
   -- a limit order trades between its limit and the resting order's: at the limit or better for both
   pub limited : (limit : ℕ) → t.condition ≡ Limit limit → AllBetween t.sell limit queue trades
   -- market and best trade at the resting order's price
-  pub resting : isLimit t.condition ≡ false → (i : ℕ) → i < length trades → (trade_of trades i).price ≡ (order_at queue i).price
+  pub resting : is_limit t.condition ≡ false → (i : ℕ) → i < length trades → (trade_of trades i).price ≡ (order_at queue i).price
   -- best makes all its trades at the best price standing on arrival
   pub single : t.condition ≡ Best → all_of (λ trade. eqb trade.price (best_price queue)) trades ≡ true
 
@@ -110,8 +110,8 @@ pub record OrderAccounted (t : Taker) (auctioned : Bool) (o : NewOrder) (own opp
   -- fill or kill, where it is not refused, trades all
   pub whole : o.time ≡ FillOrKill → traded_lots e.trades ≡ o.lots
   -- good for day: what it has traded and what rests of it are its lots
-  pub rests : isGoodForDay o.time ≡ true → traded_lots e.trades + e.rested ≡ o.lots
+  pub rests : is_good_for_day o.time ≡ true → traded_lots e.trades + e.rested ≡ o.lots
   -- not good for day, so immediate or cancel too: nothing rests, and its own queue is what it was
-  pub vanishes : isGoodForDay o.time ≡ false → (e.rested ≡ 0) × (e.own ≡ own)
+  pub vanishes : is_good_for_day o.time ≡ false → (e.rested ≡ 0) × (e.own ≡ own)
   -- in its own queue what rests of it is added, and no other order's lots change
   pub added : (number : ℕ) → lots_numbered number e.own ≡ pick (eqb t.number number) e.rested 0 + lots_numbered number own

@@ -3,7 +3,7 @@
 use Rattle.std.specs.Prelude.{true, false, List, [], ◌∷◌, ◌≡◌, refl, ℕ, pos, length, get_or}
 use Rattle.laws.specs.Choice.{all, all_of}
 use Rattle.laws.specs.Sums.{sum_of}
-use Rattle.rules.specs.Answers.{conditionsRefused, fillableLots, first_of, holdingRefused, insertRefusals, listingOf, moneyRefused, orderRefusals, priceRefusedBy, taker_of, takesOrders, tradesNeeded, tradesRefused, lotsRefused, tradesAgainst}
+use Rattle.rules.specs.Answers.{conditions_refused, fillable_lots, first_of, holding_refused, insert_refusals, listing_of, money_refused, order_refusals, price_refused_by, taker_of, takes_orders, trades_needed, trades_refused, lots_refused, trades_against}
 use Rattle.rules.specs.Bounds.{allowed_today, day_high, day_low, on_tick, terms_in_range, tick_multiple}
 use Rattle.rules.specs.Examples.{Row, ◌gives◌, all_right}
 use Rattle.rules.specs.Exchange.{Exchange, absent, account_at, best_price, holding_at, listing_at, lots_where, no_holding, no_trade, resting}
@@ -78,7 +78,7 @@ table =
     ∷ []
 
 pub fill_or_kill_examples : all_right table ≡ true
-unfolding all_right table order account book fill_or_kill after absent account_at after_leg allowed_today best_price book_leg book_trade book_trades charge_of charged_lots charged_to code_of conditionsRefused day_high day_low decide enter entered_of exchange_after fillable fillableLots first_of holding_at holdingRefused insertRefusals inserted kind_of last_price listing_after listing_at listingOf lots_where meets method_of middle moneyRefused on_tick orderRefusals lotsRefused tradesAgainst paired_price priceRefusedBy remainder rest_in rest_lots rested_lots resting stays step sum_of sweep taker_of takesOrders trade_price trade_with traded_lots tradesNeeded tradesRefused
+unfolding all_right table order account book fill_or_kill after absent account_at after_leg allowed_today best_price book_leg book_trade book_trades charge_of charged_lots charged_to code_of conditions_refused day_high day_low decide enter entered_of exchange_after fillable fillable_lots first_of holding_at holding_refused insert_refusals inserted kind_of last_price listing_after listing_at listing_of lots_where meets method_of middle money_refused on_tick order_refusals lots_refused trades_against paired_price price_refused_by remainder rest_in rest_lots rested_lots resting stays step sum_of sweep taker_of takes_orders trade_price trade_with traded_lots trades_needed trades_refused
 fill_or_kill_examples = refl
 
 -- the state that it is asked of is well formed

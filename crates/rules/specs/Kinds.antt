@@ -3,7 +3,7 @@
 -- trades of condition 3 are all read off it. Assumes nothing.
 use Rattle.std.specs.Prelude.{true, not, List, [], ◌∷◌, ℕ, eqb}
 use Rattle.laws.specs.Choice.{pick}
-use Rattle.rules.specs.Answers.{Refusal, ◌when◌, first_of, depositRefusals, withdrawRefusals, insertRefusals, cancelRefusals, pullRefusals, phaseRefusals, settleRefusals}
+use Rattle.rules.specs.Answers.{Refusal, ◌when◌, first_of, deposit_refusals, withdraw_refusals, insert_refusals, cancel_refusals, pull_refusals, phase_refusals, settle_refusals}
 use Rattle.rules.specs.Auction.{match_of}
 use Rattle.rules.specs.Change.{asked, change_refusals, changed, change_trades}
 use Rattle.rules.specs.Bounds.{phase_known}
@@ -44,49 +44,49 @@ kind_of x Malformed =
 -- 1 deposit
 kind_of x (Deposit account amount) =
     record {
-      refusals = depositRefusals x account amount;
+      refusals = deposit_refusals x account amount;
       effect = deposited x (place_of account) amount;
       moves = pays_in (place_of account) amount;
     }
 -- 2 withdraw
 kind_of x (Withdraw account amount) =
     record {
-      refusals = withdrawRefusals x account amount;
+      refusals = withdraw_refusals x account amount;
       effect = withdrawn x (place_of account) amount;
       moves = pays_out (place_of account) amount;
     }
 -- 3 insert
 kind_of x (Insert o) =
     record {
-      refusals = insertRefusals x o;
+      refusals = insert_refusals x o;
       effect = inserted x o;
       moves = makes (entered_of x x.next 0 o).trades;
     }
 -- 4 cancel
 kind_of x (Cancel account contract operator number) =
     record {
-      refusals = cancelRefusals x account contract operator number;
+      refusals = cancel_refusals x account contract operator number;
       effect = cancelled x (place_of contract) number;
       moves = nothing;
     }
 -- 5 pull
 kind_of x (Pull account contract operator) =
     record {
-      refusals = pullRefusals x account contract operator;
+      refusals = pull_refusals x account contract operator;
       effect = pulled x (place_of account) (place_of contract);
       moves = nothing;
     }
 -- 6 state; an unknown flag that no bytes give is 1 here too
 kind_of x (Phase contract phase) =
     record {
-      refusals = (1 when not (phase_known phase)) ∷ phaseRefusals x contract phase;
+      refusals = (1 when not (phase_known phase)) ∷ phase_refusals x contract phase;
       effect = phase_changed x (place_of contract) phase;
       moves = makes (match_of x (place_of contract)).trades;
     }
 -- 7 settle
 kind_of x Settle =
     record {
-      refusals = settleRefusals x;
+      refusals = settle_refusals x;
       effect = settled_all x;
       moves = settles (settlement_price x);
     }

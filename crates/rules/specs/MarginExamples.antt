@@ -3,7 +3,7 @@
 use Rattle.std.specs.Prelude.{Bool, true, false, List, [], ◌∷◌, ◌≡◌, refl, ℕ, ℤ, pos, negsuc}
 use Rattle.laws.specs.Choice.{pick}
 use Rattle.laws.specs.Sums.{sum_of}
-use Rattle.rules.specs.Answers.{amountRefused, fillableLots, first_of, holdingRefused, insertRefusals, leavesTooLittle, listingOf, moneyRefused, priceRefusedBy, taker_of, tradesNeeded, tradesRefused, withdrawRefusals, conditionsRefused, takesOrders, orderRefusals, lotsRefused, tradesAgainst}
+use Rattle.rules.specs.Answers.{amount_refused, fillable_lots, first_of, holding_refused, insert_refusals, leaves_too_little, listing_of, money_refused, price_refused_by, taker_of, trades_needed, trades_refused, withdraw_refusals, conditions_refused, takes_orders, order_refusals, lots_refused, trades_against}
 use Rattle.rules.specs.Bounds.{allowed_today, day_high, day_low, on_tick, continuous}
 use Rattle.rules.specs.Examples.{Row, ◌gives◌, all_right}
 use Rattle.rules.specs.Exchange.{Exchange, absent, account_at, best_price, holding_at, listing_at, lots_where, no_holding, resting}
@@ -131,5 +131,5 @@ table =
     ∷ []
 
 pub margin_examples : all_right table ≡ true
-unfolding all_right table contract order held account x insert buy_open sell_open absent account_at after_leg allowed_today amountRefused best_price book_leg charge_of charged_lots charged_lots_with charged_to included_to code_of day_high day_low fillable fillableLots first_of holding_at holdingRefused insertRefusals kind_of leavesTooLittle listing_at listingOf lots_where meets method_of middle moneyRefused on_tick lotsRefused tradesAgainst paired_price priceRefusedBy resting stays sum_of sweep taker_of trade_price trade_with tradesNeeded tradesRefused withdrawRefusals conditionsRefused takesOrders orderRefusals
+unfolding all_right table contract order held account x insert buy_open sell_open absent account_at after_leg allowed_today amount_refused best_price book_leg charge_of charged_lots charged_lots_with charged_to included_to code_of day_high day_low fillable fillable_lots first_of holding_at holding_refused insert_refusals kind_of leaves_too_little listing_at listing_of lots_where meets method_of middle money_refused on_tick lots_refused trades_against paired_price price_refused_by resting stays sum_of sweep taker_of trade_price trade_with trades_needed trades_refused withdraw_refusals conditions_refused takes_orders order_refusals
 margin_examples = refl

@@ -3,7 +3,7 @@ use Rattle.std.specs.Prelude.{List, [], ◌∷◌, ◌≡◌, refl, ℕ}
 use Rattle.laws.specs.Choice.{all, all_of}
 use Rattle.laws.specs.Sums.{sum_of, sum_to}
 use Rattle.laws.specs.Tabulate.{tabulate}
-use Rattle.rules.specs.Answers.{first_of, listingOf, taker_of, fillableLots, tradesNeeded, tradesRefused, priceRefusedBy, holdingRefused, moneyRefused, insertRefusals, removalRefused, numbered, restingOrder, noSuchOrder, ofAnother, cancelRefusals, pullRefusals, amountRefused, liftsTooHigh, depositRefusals, leavesTooLittle, withdrawRefusals, changeListed, phaseRefusals, settleRefusals, takesOrders, conditionsRefused, orderRefusals, lotsRefused, tradesAgainst}
+use Rattle.rules.specs.Answers.{first_of, listing_of, taker_of, fillable_lots, trades_needed, trades_refused, price_refused_by, holding_refused, money_refused, insert_refusals, removal_refused, numbered, resting_order, no_such_order, of_another, cancel_refusals, pull_refusals, amount_refused, lifts_too_high, deposit_refusals, leaves_too_little, withdraw_refusals, change_listed, phase_refusals, settle_refusals, takes_orders, conditions_refused, order_refusals, lots_refused, trades_against}
 use Rattle.rules.specs.Auction.{match_of}
 use Rattle.rules.specs.Bounds.{on_tick, tick_multiple, terms_in_range, day_low, day_high, allowed_today}
 use Rattle.rules.specs.Command.{zeros, bits, price_condition, time_condition, insert_flags, new_order, deposit_of, withdraw_of, insert_of, cancel_of, pull_of, phase_of, settle_of, command_of}
@@ -80,5 +80,5 @@ printed =
     ∷ []
 
 pub paper_day : output file ≡ printed
-unfolding file printed all all_of sum_of sum_to tabulate first_of listingOf taker_of fillableLots tradesNeeded tradesRefused priceRefusedBy tradesAgainst lotsRefused holdingRefused moneyRefused insertRefusals removalRefused numbered restingOrder noSuchOrder ofAnother cancelRefusals pullRefusals amountRefused liftsTooHigh depositRefusals leavesTooLittle withdrawRefusals changeListed phaseRefusals settleRefusals code_of on_tick tick_multiple terms_in_range day_low day_high allowed_today zeros bits price_condition time_condition insert_flags new_order deposit_of withdraw_of insert_of cancel_of pull_of phase_of settle_of command_of u8_at u16_at u32_at u64_at contracts_in contract_place accounts_in account_place commands_in command_place contract_from contract_sound balance_from account_sound record_from commands_of sound opening_listing opening_account opening absent listing_at account_at holding_at best_price lots_where resting after_leg book_leg book_trade book_trades leg_covered never_below_zero start_of_day same_lots same_holdings digits decimal signed fields_of answer_line trade_line trade_lines price_lines account_lines settlement_lines new_trades step_lines run_lines output charge_of charged_lots charged_to meets fillable method_of middle paired_price trade_price trade_with stays sweep traded_lots last_price rest_in remainder rest_lots rested_lots enter trades_in traded_value weighted_price quoted_price price_from settlement_price only legs day_start gain first_lots other_lots after_day_leg after_legs day_of holding_gain closing_profit holding_profit settled_account settled_contract settled_listing settled paid deposited withdrawn entered_of listing_after exchange_after inserted without removed cancelled pulled phase_changed settled_all kind_of decide step takesOrders conditionsRefused match_of listing_matched exchange_matched orderRefusals maker_from
+unfolding file printed all all_of sum_of sum_to tabulate first_of listing_of taker_of fillable_lots trades_needed trades_refused price_refused_by trades_against lots_refused holding_refused money_refused insert_refusals removal_refused numbered resting_order no_such_order of_another cancel_refusals pull_refusals amount_refused lifts_too_high deposit_refusals leaves_too_little withdraw_refusals change_listed phase_refusals settle_refusals code_of on_tick tick_multiple terms_in_range day_low day_high allowed_today zeros bits price_condition time_condition insert_flags new_order deposit_of withdraw_of insert_of cancel_of pull_of phase_of settle_of command_of u8_at u16_at u32_at u64_at contracts_in contract_place accounts_in account_place commands_in command_place contract_from contract_sound balance_from account_sound record_from commands_of sound opening_listing opening_account opening absent listing_at account_at holding_at best_price lots_where resting after_leg book_leg book_trade book_trades leg_covered never_below_zero start_of_day same_lots same_holdings digits decimal signed fields_of answer_line trade_line trade_lines price_lines account_lines settlement_lines new_trades step_lines run_lines output charge_of charged_lots charged_to meets fillable method_of middle paired_price trade_price trade_with stays sweep traded_lots last_price rest_in remainder rest_lots rested_lots enter trades_in traded_value weighted_price quoted_price price_from settlement_price only legs day_start gain first_lots other_lots after_day_leg after_legs day_of holding_gain closing_profit holding_profit settled_account settled_contract settled_listing settled paid deposited withdrawn entered_of listing_after exchange_after inserted without removed cancelled pulled phase_changed settled_all kind_of decide step takes_orders conditions_refused match_of listing_matched exchange_matched order_refusals maker_from
 paper_day = refl

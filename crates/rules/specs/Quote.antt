@@ -1,7 +1,7 @@
 -- Quotes from market makers (document 02, ticket 7). Assumes nothing.
 use Rattle.std.specs.Prelude.{Bool, true, false, not, List, [], ◌∷◌, ◌++◌, ℕ, ◌+◌, ltb, eqb}
 use Rattle.laws.specs.Choice.{pick}
-use Rattle.rules.specs.Answers.{Refusal, ◌when◌, dayLimitOrder, namedRefusals, notContinuous, orderRefusals}
+use Rattle.rules.specs.Answers.{Refusal, ◌when◌, day_limit_order, named_refusals, not_continuous, order_refusals}
 use Rattle.rules.specs.Exchange.{Exchange, listing_named, holder_of, place_of}
 use Rattle.rules.specs.Matching.{Entered, traded_lots}
 use Rattle.rules.specs.Step.{Effect, with_listing, listing_without, entered_of, exchange_after}
@@ -23,7 +23,7 @@ offered account contract lots buy sell = record { account = account; contract = 
 
 -- "a buy and a sell good-for-day limit open with equal lots"
 unfoldable pub half : Offered → Bool → NewOrder
-half q sell = dayLimitOrder q.account q.contract sell false q.lots (pick sell q.sell q.buy)
+half q sell = day_limit_order q.account q.contract sell false q.lots (pick sell q.sell q.buy)
 
 abbrev pub buy_of : Offered → NewOrder
 buy_of q = half q false
@@ -72,10 +72,10 @@ offer_refusals a buy sell =
 
 unfoldable pub quote_refusals : Exchange → Offered → List Refusal
 quote_refusals x q =
-    namedRefusals x notContinuous q.account q.contract
+    named_refusals x not_continuous q.account q.contract
     ++ offer_refusals (holder_of x q.account) q.buy q.sell
-    ++ orderRefusals (without_quote x q) (buy_of q)
-    ++ orderRefusals (with_buy x q) (sell_of q)
+    ++ order_refusals (without_quote x q) (buy_of q)
+    ++ order_refusals (with_buy x q) (sell_of q)
 
 -- ---- "The C line gives the buy's number; its lots are summed over both." "a place in use only between the steps is set to zero":
 -- each state is written over the last

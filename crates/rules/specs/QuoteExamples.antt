@@ -7,7 +7,7 @@ use Rattle.laws.specs.Sums.{sum_of}
 use Rattle.laws.specs.Tabulate.{tabulate}
 use Rattle.areas.specs.Lists.{over, padded}
 use Rattle.areas.specs.Records.{decode, encode, records, store}
-use Rattle.rules.specs.Answers.{conditionsRefused, dayLimitOrder, fillableLots, first_of, holdingRefused, listingOf, mark, moneyRefused, noSuchOrder, numbered, ofAnother, orderRefusals, priceRefusedBy, restingOrder, taker_of, tradesNeeded, tradesRefused, lotsRefused, tradesAgainst}
+use Rattle.rules.specs.Answers.{conditions_refused, day_limit_order, fillable_lots, first_of, holding_refused, listing_of, mark, money_refused, no_such_order, numbered, of_another, order_refusals, price_refused_by, resting_order, taker_of, trades_needed, trades_refused, lots_refused, trades_against}
 use Rattle.rules.specs.Bounds.{allowed_today, auction, closed, continuous, day_high, day_low, no_trading, on_tick, pre_open}
 use Rattle.rules.specs.Change.{arriving, asked, change_refusals, changed, gone, is_sell, lessened, loses_place, old_order, place_kept, place_lost, reentered, unchanged}
 use Rattle.rules.specs.Command.{command_of, quote_of, zeros}
@@ -157,7 +157,7 @@ codes =
     ∷ []
 
 pub quote_codes : all_right codes ≡ true
-unfolding all_right codes order account contract state rich phased open' held numbered' traded' crowded replacing sent code absent account_at after_leg all_of allowed_today best_price book_leg book_trade book_trades charge_of charged_lots charged_to code_of command_of conditionsRefused day_high day_low enter entered_of exchange_after fillable fillableLots first_of half holding_at holdingRefused kind_of last_price listing_after listing_at listingOf lots_where meets method_of middle moneyRefused on_tick orderRefusals lotsRefused tradesAgainst paired_price priceRefusedBy quote_of quote_refusals remainder rest_in rest_lots rested_lots resting stays sum_of sweep tabulate taker_of trade_price trade_with traded_lots tradesNeeded tradesRefused with_buy without without_quote zeros
+unfolding all_right codes order account contract state rich phased open' held numbered' traded' crowded replacing sent code absent account_at after_leg all_of allowed_today best_price book_leg book_trade book_trades charge_of charged_lots charged_to code_of command_of conditions_refused day_high day_low enter entered_of exchange_after fillable fillable_lots first_of half holding_at holding_refused kind_of last_price listing_after listing_at listing_of lots_where meets method_of middle money_refused on_tick order_refusals lots_refused trades_against paired_price price_refused_by quote_of quote_refusals remainder rest_in rest_lots rested_lots resting stays sum_of sweep tabulate taker_of trade_price trade_with traded_lots trades_needed trades_refused with_buy without without_quote zeros
 quote_codes = refl
 
 -- ---- effects. By ticks of 1. Account 1's quote is half filled: 2 lots to buy at 104 (number 1), 5 to sell at 108 (number 2); it bids
@@ -214,7 +214,7 @@ fewer number lots price = last_of book (changed book (asked 1 1 number lots pric
 
 -- account 2 sells one lot at 104, to open
 partly : Exchange
-partly = last_of book (inserted book (dayLimitOrder 2 1 true false 1 104)).stages
+partly = last_of book (inserted book (day_limit_order 2 1 true false 1 104)).stages
 
 -- account 1 quotes beside the quote of account 2
 beside : Exchange
@@ -282,7 +282,7 @@ effects =
     ∷ []
 
 pub quote_effects : all_right effects ≡ true
-unfolding all_right effects order account contract book_of book at effect after buy_at sell_at trade_at' buy_marks sell_marks fewer partly beside account_at after_leg arriving best_price book_leg book_trade book_trades changed enter entered_of exchange_after gone half inserted is_sell last_price lessened listing_after listing_at listingOf loses_place lots_where meets method_of middle noSuchOrder numbered old_order paired_price place_kept place_lost quote_trades quoted reentered remainder rest_in rest_lots rested_lots restingOrder stays sum_of sweep taker_of trade_price trade_with traded_lots unchanged with_buy with_sell without without_quote
+unfolding all_right effects order account contract book_of book at effect after buy_at sell_at trade_at' buy_marks sell_marks fewer partly beside account_at after_leg arriving best_price book_leg book_trade book_trades changed enter entered_of exchange_after gone half inserted is_sell last_price lessened listing_after listing_at listing_of loses_place lots_where meets method_of middle no_such_order numbered old_order paired_price place_kept place_lost quote_trades quoted reentered remainder rest_in rest_lots rested_lots resting_order stays sum_of sweep taker_of trade_price trade_with traded_lots unchanged with_buy with_sell without without_quote
 quote_effects = refl
 
 -- ---- "a place in use only between the steps is set to zero". Account 2 bids for 1 at 100 and 1 at 99; account 1 quotes 2 lots at 90 and
@@ -335,7 +335,7 @@ places =
     ∷ []
 
 pub quote_places : all_right places ≡ true
-unfolding all_right places order account contract lying words_at left absent account_at after_leg allowed_today arriving best_price book_leg book_trade book_trades cancelled change_refusals changed charge_of charged_lots charged_to code_of conditionsRefused day_high day_low decide decode encode enter entered_of exchange_after exchange_of fillable fillableLots first_of gone half holding_at holdingRefused is_sell kind_of last_price listing_after listing_at listing_in listingOf loses_place lots_where meets method_of middle moneyRefused noSuchOrder numbered ofAnother old_order on_tick orderRefusals over lotsRefused tradesAgainst padded paired_price place_lost priceRefusedBy put put_accounts put_queue put_queues put_state put_trades queue_in quote_refusals quoted records recorded_trades reentered remainder removed rest_in rest_lots rested_lots resting restingOrder stays step_in store sum_of sweep tabulate taker_of trade_price trade_with traded_lots tradesNeeded tradesRefused with_buy with_sell without without_quote
+unfolding all_right places order account contract lying words_at left absent account_at after_leg allowed_today arriving best_price book_leg book_trade book_trades cancelled change_refusals changed charge_of charged_lots charged_to code_of conditions_refused day_high day_low decide decode encode enter entered_of exchange_after exchange_of fillable fillable_lots first_of gone half holding_at holding_refused is_sell kind_of last_price listing_after listing_at listing_in listing_of loses_place lots_where meets method_of middle money_refused no_such_order numbered of_another old_order on_tick order_refusals over lots_refused trades_against padded paired_price place_lost price_refused_by put put_accounts put_queue put_queues put_state put_trades queue_in quote_refusals quoted records recorded_trades reentered remainder removed rest_in rest_lots rested_lots resting resting_order stays step_in store sum_of sweep tabulate taker_of trade_price trade_with traded_lots trades_needed trades_refused with_buy with_sell without without_quote
 quote_places = refl
 
 -- ---- "Bit 63 of an account's opening balance in the file marks a maker." A file of one account whose balance has these first and last

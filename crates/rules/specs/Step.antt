@@ -2,7 +2,7 @@
 -- nothing.
 use Rattle.std.specs.Prelude.{Bool, List, [], ◌∷◌, ◌++◌, ℕ, ◌+◌, eqb, ℤ, pos, ◌+ℤ◌, ◌-ℤ◌, set}
 use Rattle.laws.specs.Choice.{pick}
-use Rattle.rules.specs.Answers.{taker_of, listingOf, ownQueue, oppositeQueue, isGoodForDay}
+use Rattle.rules.specs.Answers.{taker_of, listing_of, own_queue, opposite_queue, is_good_for_day}
 use Rattle.rules.specs.Auction.{Matched, match_of}
 use Rattle.rules.specs.Bounds.{in_auction}
 use Rattle.rules.specs.Exchange.{Exchange, Listing, listing_at, holder_at, place_of, with_queues, lots_where}
@@ -98,10 +98,10 @@ abbrev pub entered_among : Contract → Taker → NewOrder → List Order → Li
 entered_among terms t o own opposite =
     pick (in_auction terms)
     (rest_whole t o.lots (limit_of o.condition) own opposite)
-    (enter t o.lots (limit_of o.condition) (isGoodForDay o.time) terms.last own opposite)
+    (enter t o.lots (limit_of o.condition) (is_good_for_day o.time) terms.last own opposite)
 
 unfoldable pub entered_of : Exchange → ℕ → ℕ → NewOrder → Entered
-entered_of x number quote o = entered_among (listingOf x o).contract (taker_of x number quote o) o (ownQueue x o) (oppositeQueue x o)
+entered_of x number quote o = entered_among (listing_of x o).contract (taker_of x number quote o) o (own_queue x o) (opposite_queue x o)
 
 -- the listing with an order entered, and the state
 unfoldable pub listing_after : Listing → Bool → Entered → Listing
@@ -110,7 +110,7 @@ listing_after l sell e = with_queues sell (with_last l.contract (last_price l.co
 -- the state with an order entered: a time stamp is taken, and the next order number is `next`
 unfoldable pub exchange_after : Exchange → NewOrder → Entered → ℕ → Exchange
 exchange_after x o e next =
-    with_trades x (place_of o.contract) (listing_after (listingOf x o) o.sell e) e.trades next (x.nextstamp + 1)
+    with_trades x (place_of o.contract) (listing_after (listing_of x o) o.sell e) e.trades next (x.nextstamp + 1)
 
 -- an order entered with a number and a quote mark, after which the next order number is `next`: its answer's numbers, and the state
 abbrev pub entered_as : Exchange → NewOrder → ℕ → ℕ → ℕ → Effect

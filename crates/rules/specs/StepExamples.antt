@@ -4,7 +4,7 @@ use Rattle.std.specs.Prelude.{true, List, [], ◌∷◌, ◌≡◌, refl, ℕ, p
 use Rattle.laws.specs.Choice.{all_of}
 use Rattle.laws.specs.Sums.{sum_of, sum_to}
 use Rattle.laws.specs.Tabulate.{tabulate}
-use Rattle.rules.specs.Answers.{first_of, settleRefusals}
+use Rattle.rules.specs.Answers.{first_of, settle_refusals}
 use Rattle.rules.specs.Auction.{match_of}
 use Rattle.rules.specs.Bounds.{closed, continuous}
 use Rattle.rules.specs.Examples.{Row, ◌gives◌, all_right, up}
@@ -104,5 +104,5 @@ table =
     ∷ []
 
 pub step_examples : all_right table ≡ true
-unfolding all_right table order account trade state_in state after balance holding itself up account_at after_day_leg after_leg after_legs book_leg book_trade closing_profit day_of day_start deposited exchange_matched first_lots gain holding_at holding_gain holding_profit all_of code_of first_of kind_of legs listing_at lots_where match_of settleRefusals settlement_lines only other_lots paid phase_changed price_from pulled removed settled settled_account settled_contract settled_listing settlement_price sum_of sum_to tabulate traded_lots traded_value trades_in weighted_price without
+unfolding all_right table order account trade state_in state after balance holding itself up account_at after_day_leg after_leg after_legs book_leg book_trade closing_profit day_of day_start deposited exchange_matched first_lots gain holding_at holding_gain holding_profit all_of code_of first_of kind_of legs listing_at lots_where match_of settle_refusals settlement_lines only other_lots paid phase_changed price_from pulled removed settled settled_account settled_contract settled_listing settlement_price sum_of sum_to tabulate traded_lots traded_value trades_in weighted_price without
 step_examples = refl

@@ -4,7 +4,7 @@ use Rattle.std.specs.Prelude.{Bool, true, false, List, [], ◌∷◌, ◌≡◌,
 use Rattle.laws.specs.Choice.{all_of}
 use Rattle.laws.specs.Sums.{sum_of}
 use Rattle.laws.specs.Tabulate.{tabulate}
-use Rattle.rules.specs.Answers.{amountRefused, cancelRefusals, conditionsRefused, dayLimitOrder, depositRefusals, fillableLots, first_of, holdingRefused, insertRefusals, leavesTooLittle, liftsTooHigh, listingOf, lotsRefused, mark, moneyRefused, noSuchOrder, numbered, ofAnother, orderRefusals, priceRefusedBy, pullRefusals, removalRefused, restingOrder, taker_of, takesOrders, tradesAgainst, tradesNeeded, tradesRefused, withdrawRefusals}
+use Rattle.rules.specs.Answers.{amount_refused, cancel_refusals, conditions_refused, day_limit_order, deposit_refusals, fillable_lots, first_of, holding_refused, insert_refusals, leaves_too_little, lifts_too_high, listing_of, lots_refused, mark, money_refused, no_such_order, numbered, of_another, order_refusals, price_refused_by, pull_refusals, removal_refused, resting_order, taker_of, takes_orders, trades_against, trades_needed, trades_refused, withdraw_refusals}
 use Rattle.rules.specs.Bounds.{allowed_today, continuous, day_high, day_low, on_tick}
 use Rattle.rules.specs.Change.{arriving, change_refusals, changed, gone, is_sell, loses_place, old_order, place_lost, reentered}
 use Rattle.rules.specs.Command.{is_payment}
@@ -65,10 +65,10 @@ balance x a = up (holder_at x a).balance
 
 -- account 3 buys, account 2 offers
 buys : ℕ → ℕ → Command
-buys lots price = Insert (dayLimitOrder 3 1 false false lots price)
+buys lots price = Insert (day_limit_order 3 1 false false lots price)
 
 offers : ℕ → ℕ → Command
-offers lots price = Insert (dayLimitOrder 2 1 true false lots price)
+offers lots price = Insert (day_limit_order 2 1 true false lots price)
 
 pub table : List Row
 table =
@@ -85,11 +85,11 @@ table =
     ∷ (code_of state (Pull 0 1 false) gives 2)
     ∷ (rest (after (Pull 0 1 false)) 0 false gives 2)
     -- 3. account 3 buys 6 in contract 2 and meets order 6: contract 1 has its orders, its last price, and nobody's lots
-    ∷ ((listing_at (after (Insert (dayLimitOrder 3 2 false false 6 52))) 1).contract.last gives 52)
-    ∷ ((held_at (after (Insert (dayLimitOrder 3 2 false false 6 52))) 2 1).long gives 5)
-    ∷ ((listing_at (after (Insert (dayLimitOrder 3 2 false false 6 52))) 0).contract.last gives 100)
-    ∷ ((held_at (after (Insert (dayLimitOrder 3 2 false false 6 52))) 2 0).long gives 0)
-    ∷ (rest (after (Insert (dayLimitOrder 3 2 false false 6 52))) 0 false gives 2)
+    ∷ ((listing_at (after (Insert (day_limit_order 3 2 false false 6 52))) 1).contract.last gives 52)
+    ∷ ((held_at (after (Insert (day_limit_order 3 2 false false 6 52))) 2 1).long gives 5)
+    ∷ ((listing_at (after (Insert (day_limit_order 3 2 false false 6 52))) 0).contract.last gives 100)
+    ∷ ((held_at (after (Insert (day_limit_order 3 2 false false 6 52))) 2 0).long gives 0)
+    ∷ (rest (after (Insert (day_limit_order 3 2 false false 6 52))) 0 false gives 2)
     -- 4. a pull of account 1 in contract 1 leaves account 2's orders there, and account 1's in contract 2
     ∷ (rest (after (Pull 1 1 false)) 0 false gives 1)
     ∷ ((at (after (Pull 1 1 false)) 0 false 0).number gives 2)
@@ -140,5 +140,5 @@ table =
     ∷ []
 
 pub touch_examples : all_right table ≡ true
-unfolding all_right table order contract account state after rest at balance buys offers up absent account_at after_leg all_of allowed_today amountRefused arriving best_price book_leg book_trade book_trades cancelRefusals cancelled charge_of charged_lots charged_to change_refusals changed code_of conditionsRefused day_high day_low decide depositRefusals deposited enter entered_of exchange_after fillable fillableLots first_of gone half holding_at holdingRefused insertRefusals inserted is_sell kind_of last_price leavesTooLittle liftsTooHigh listing_after listing_at listingOf loses_place lotsRefused lots_where meets method_of middle moneyRefused noSuchOrder numbered ofAnother old_order on_tick orderRefusals orders_where paid paired_price place_lost priceRefusedBy pullRefusals pulled quote_refusals quoted reentered remainder removalRefused removed rest_in rest_lots rested_lots resting restingOrder stays step sum_of sweep tabulate taker_of takesOrders trade_price trade_with traded_lots tradesAgainst tradesNeeded tradesRefused with_buy with_sell withdrawRefusals withdrawn without without_quote
+unfolding all_right table order contract account state after rest at balance buys offers up absent account_at after_leg all_of allowed_today amount_refused arriving best_price book_leg book_trade book_trades cancel_refusals cancelled charge_of charged_lots charged_to change_refusals changed code_of conditions_refused day_high day_low decide deposit_refusals deposited enter entered_of exchange_after fillable fillable_lots first_of gone half holding_at holding_refused insert_refusals inserted is_sell kind_of last_price leaves_too_little lifts_too_high listing_after listing_at listing_of loses_place lots_refused lots_where meets method_of middle money_refused no_such_order numbered of_another old_order on_tick order_refusals orders_where paid paired_price place_lost price_refused_by pull_refusals pulled quote_refusals quoted reentered remainder removal_refused removed rest_in rest_lots rested_lots resting resting_order stays step sum_of sweep tabulate taker_of takes_orders trade_price trade_with traded_lots trades_against trades_needed trades_refused with_buy with_sell withdraw_refusals withdrawn without without_quote
 touch_examples = refl

@@ -8,7 +8,7 @@ use Rattle.laws.specs.Written.{length_overwritten}
 use Rattle.areas.specs.Lists.{padded}
 use Rattle.areas.proofs.Lists.{get_d_padded}
 use Rattle.rules.specs.Kinds.{code_of, kind_of}
-use Rattle.rules.specs.Answers.{settleRefusals}
+use Rattle.rules.specs.Answers.{settle_refusals}
 use Rattle.rules.specs.Bounds.{max_settlements}
 use Rattle.rules.specs.Exchange.{Exchange, Listing, no_contract, no_listing, listing_at}
 use Rattle.rules.specs.Margin as margin
@@ -53,8 +53,8 @@ module _ (s : State) (buys sells trades : List ℕ) (g : Settleable s buys sells
   room = accounts_declared m g.state.declared g.state.formed
 
   pub settlements_left : s.settlements < 250
-  unfolding code_of kind_of settleRefusals exchange_of
-  settlements_left = leb-false max_settlements x.settlements (failed (settleRefusals x) (omega arith) g.accepted).1.0
+  unfolding code_of kind_of settle_refusals exchange_of
+  settlements_left = leb-false max_settlements x.settlements (failed (settle_refusals x) (omega arith) g.accepted).1.0
 
   pub few_contracts : s.contractcount ≤ 4
   few_contracts = contracts_four m room g.state.formed

@@ -3,7 +3,7 @@
 use Rattle.laws.specs.Logic.{Bool, true, false, ◌&&◌, List, [], ◌∷◌, append-nil, ◌≡◌, refl, ap}
 use Rattle.laws.specs.Numbers.{ℕ, ◌-◌, min, ltb, length}
 use Rattle.laws.specs.Choice.{pick, pick_either, pick_false}
-use Rattle.rules.specs.Answers.{isGoodForDay, listingOf, taker_of, tradesNeeded, tradesAgainst}
+use Rattle.rules.specs.Answers.{is_good_for_day, listing_of, taker_of, trades_needed, trades_against}
 use Rattle.rules.specs.Auction.{Matched, match_of, unmatched}
 use Rattle.rules.specs.Bounds.{in_auction}
 use Rattle.rules.specs.Exchange.{Exchange, listing_at, opposite, own}
@@ -28,33 +28,33 @@ unmarked_sweep x number quote o left last (p ∷ ps) =
 module _ (x : Exchange) (number quote : ℕ) (o : NewOrder) where
   -- the order at rest with all its lots, and the order entered by the sweep
   abbrev pub rested_whole : Entered
-  rested_whole = rest_whole (taker_of x number quote o) o.lots (limit_of o.condition) (own o.sell (listingOf x o)) (opposite o.sell (listingOf x o))
+  rested_whole = rest_whole (taker_of x number quote o) o.lots (limit_of o.condition) (own o.sell (listing_of x o)) (opposite o.sell (listing_of x o))
 
   abbrev pub entered_by_sweep : Entered
   entered_by_sweep =
-      enter (taker_of x number quote o) o.lots (limit_of o.condition) (isGoodForDay o.time) (listingOf x o).contract.last
-      (own o.sell (listingOf x o))
-      (opposite o.sell (listingOf x o))
+      enter (taker_of x number quote o) o.lots (limit_of o.condition) (is_good_for_day o.time) (listing_of x o).contract.last
+      (own o.sell (listing_of x o))
+      (opposite o.sell (listing_of x o))
 
-  pub entered_elsewhere : in_auction (listingOf x o).contract ≡ false → entered_of x number quote o ≡ entered_by_sweep
+  pub entered_elsewhere : in_auction (listing_of x o).contract ≡ false → entered_of x number quote o ≡ entered_by_sweep
   unfolding entered_of
-  entered_elsewhere e = pick_false (in_auction (listingOf x o).contract) rested_whole entered_by_sweep e
+  entered_elsewhere e = pick_false (in_auction (listing_of x o).contract) rested_whole entered_by_sweep e
 
   -- what holds of both holds of the order entered
-  pub entered_either : (P : Entered → Type 0) → (in_auction (listingOf x o).contract ≡ true → P rested_whole)
-      → (in_auction (listingOf x o).contract ≡ false → P entered_by_sweep) → P (entered_of x number quote o)
+  pub entered_either : (P : Entered → Type 0) → (in_auction (listing_of x o).contract ≡ true → P rested_whole)
+      → (in_auction (listing_of x o).contract ≡ false → P entered_by_sweep) → P (entered_of x number quote o)
   unfolding entered_of
-  entered_either P = pick_either P (in_auction (listingOf x o).contract) rested_whole entered_by_sweep
+  entered_either P = pick_either P (in_auction (listing_of x o).contract) rested_whole entered_by_sweep
 
   -- 12 counts the trades that are made
-  pub trades_needed : tradesNeeded x number o ≡ length (entered_of x number quote o).trades
-  unfolding tradesNeeded tradesAgainst entered_of rest_whole enter
-  trades_needed = cases (in_auction (listingOf x o).contract)
+  pub trades_needed_lem : trades_needed x number o ≡ length (entered_of x number quote o).trades
+  unfolding trades_needed trades_against entered_of rest_whole enter
+  trades_needed_lem = cases (in_auction (listing_of x o).contract)
     where
       cases : (b : Bool)
-          → pick b 0 (length (sweep (taker_of x number 0 o) o.lots (listingOf x o).contract.last (opposite o.sell (listingOf x o))).trades) ≡ length (pick b rested_whole entered_by_sweep).trades
+          → pick b 0 (length (sweep (taker_of x number 0 o) o.lots (listing_of x o).contract.last (opposite o.sell (listing_of x o))).trades) ≡ length (pick b rested_whole entered_by_sweep).trades
       cases true = refl
-      cases false = ap (λ (s : Swept). length s.trades) (unmarked_sweep x number quote o o.lots (listingOf x o).contract.last (opposite o.sell (listingOf x o)))
+      cases false = ap (λ (s : Swept). length s.trades) (unmarked_sweep x number quote o o.lots (listing_of x o).contract.last (opposite o.sell (listing_of x o)))
 
 -- ---- a change of state
 

@@ -8,7 +8,7 @@ use types.Run.{OneOf, miss}
 use Rattle.laws.specs.Logic.{Bool, true, false, not, true≢false, false≢true, List, [], ◌∷◌, ◌++◌, ◌≡◌, refl, sym, ap, subst, ◌∙◌}
 use Rattle.laws.specs.Numbers.{ℕ, ◌+◌, arith, ne_eqb, eqb}
 use Rattle.laws.specs.Choice.{ap_pick, pick, pick_same}
-use Rattle.rules.specs.Answers.{Refusal, absentRefusals, cancelRefusals, depositRefusals, first_of, insertRefusals, phaseRefusals, pullRefusals, withdrawRefusals}
+use Rattle.rules.specs.Answers.{Refusal, absent_refusals, cancel_refusals, deposit_refusals, first_of, insert_refusals, phase_refusals, pull_refusals, withdraw_refusals}
 use Rattle.rules.specs.Change.{asked, change_refusals}
 use Rattle.rules.specs.Command.{Field, unused, holds, account_field, cancel_of, change_of, command_of, contract_field, deposit_of, insert_of, is_payment, is_settle, kind_number, new_order, phase_of, pull_of, quote_of, settle_of, withdraw_of}
 use Rattle.rules.specs.Exchange.{Exchange, absent, place_of}
@@ -81,14 +81,14 @@ inserts_its_order r e = ap (order_in (new_order r)) (sym e) ∙ simp (either_ord
 -- ---- what a command names
 
 -- a list of refusals that begins with those of absent numbers
-both_there : (x : Exchange) (account contract : ℕ) (rs : List Refusal) → first_of (absentRefusals x account contract ++ rs) ≡ 0 →
+both_there : (x : Exchange) (account contract : ℕ) (rs : List Refusal) → first_of (absent_refusals x account contract ++ rs) ≡ 0 →
     (absent account x.accounts ≡ false) × (absent contract x.listings ≡ false)
-both_there x account contract rs e = let f = (both_zero (absentRefusals x account contract) rs (omega arith) e).0 in (f.0, f.1.0)
+both_there x account contract rs e = let f = (both_zero (absent_refusals x account contract) rs (omega arith) e).0 in (f.0, f.1.0)
 
 -- of an accepted command neither field is blank
 pub accepted_named : (x : Exchange) (command : Command) → code_of x command ≡ 0 →
     (is_blank (account_field command) x.accounts ≡ false) × (is_blank (contract_field command) x.listings ≡ false)
-unfolding code_of kind_of depositRefusals withdrawRefusals insertRefusals cancelRefusals pullRefusals phaseRefusals quote_refusals change_refusals
+unfolding code_of kind_of deposit_refusals withdraw_refusals insert_refusals cancel_refusals pull_refusals phase_refusals quote_refusals change_refusals
 accepted_named x Malformed e = (refl, refl)
 accepted_named x (Deposit account amount) e = ((failed (kind_of x (Deposit account amount)).refusals (omega arith) e).0, refl)
 accepted_named x (Withdraw account amount) e = ((failed (kind_of x (Withdraw account amount)).refusals (omega arith) e).0, refl)

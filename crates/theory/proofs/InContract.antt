@@ -2,7 +2,7 @@
 use Rattle.laws.specs.Logic.{true, false, List, [], ◌++◌, append-nil, append_assoc, ◌≡◌, refl, sym, ◌∙◌}
 use Rattle.laws.specs.Numbers.{ℕ, ◌+◌, eqb-false, eqb, get_or, set, get_or-set_other}
 use Rattle.laws.specs.Choice.{all_of, all_of_append, true_both}
-use Rattle.rules.specs.Answers.{listingOf, taker_of}
+use Rattle.rules.specs.Answers.{listing_of, taker_of}
 use Rattle.rules.specs.Auction.{match_of}
 use Rattle.rules.specs.Change.{Asked, arriving, change_trades, changed, gone, place_kept, place_lost, reentered, unchanged}
 use Rattle.rules.specs.Exchange.{Exchange, Listing, listing_at, no_listing, opposite, place_of}
@@ -55,7 +55,7 @@ entered_in_lem x o number quote next =
     record {
       others = elsewhere (place_of o.contract) x.listings _;
       here = entered_either x number quote o (λ e. all_of (of_contract (place_of o.contract)) e.trades ≡ true) (λ u. unfold all_of rest_whole in refl)
-          (λ u. unfold enter taker_of in swept_contract (taker_of x number quote o) o.lots (listingOf x o).contract.last (opposite o.sell (listingOf x o)));
+          (λ u. unfold enter taker_of in swept_contract (taker_of x number quote o) o.lots (listing_of x o).contract.last (opposite o.sell (listing_of x o)));
       recorded = refl;
       booked = refl;
     }

@@ -6,7 +6,7 @@ use Rattle.laws.specs.Logic.{Bool, true, false, not, ◌≡◌, refl, sym, ap, a
 use Rattle.laws.specs.Numbers.{ℕ, zero, suc, ◌+◌, ◌*◌, ◌<◌, ◌≤◌, max, mul-le-mul_left, arith, eqb-true, eqb-false, eqb, length}
 use Rattle.laws.specs.Choice.{pick}
 use Rattle.laws.specs.Ring.{le_z_lt_z}
-use Rattle.rules.specs.Answers.{moneyRefused}
+use Rattle.rules.specs.Answers.{money_refused}
 use Rattle.rules.specs.Exchange.{Exchange, Listing, listing_at, account_at, holding_at, place_of}
 use Rattle.rules.specs.Holdings.{after_leg}
 use Rattle.rules.specs.Margin.{charge, charged, charged_lots, charged_lots_with, charged_to, charged_with, included_to, with_open}
@@ -79,9 +79,9 @@ module _ (x : Exchange) (o : NewOrder) where
   contract = place_of o.contract
 
   pub open_passes : o.close ≡ false → account < length x.accounts → contract < length (account_at x.accounts account).holdings →
-      not (moneyRefused x o)
+      not (money_refused x o)
       ≡ le_z (pos (included_to x account contract o.sell o.lots (length x.listings))) (account_at x.accounts account).balance
-  unfolding moneyRefused
+  unfolding money_refused
   open_passes e known holds =
       rw (e, lots_included x account contract o.sell o.lots known holds)
       (sym (le_z_lt_z (pos (included_to x account contract o.sell o.lots (length x.listings))) (account_at x.accounts account).balance))

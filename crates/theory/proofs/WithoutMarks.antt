@@ -5,7 +5,7 @@ use Rattle.laws.specs.Numbers.{ℕ, zero, suc, ◌-◌, min, eqb, ltb, length, l
 use Rattle.laws.specs.Choice.{pick}
 use Rattle.laws.specs.Lists.{map_set}
 use Rattle.laws.specs.Sums.{sum_of}
-use Rattle.rules.specs.Answers.{fillableLots, holdingRefused, isGoodForDay, listingOf, moneyRefused, orderRefusals, mark, taker_of, tradesNeeded, tradesRefused, tradesAgainst}
+use Rattle.rules.specs.Answers.{fillable_lots, holding_refused, is_good_for_day, listing_of, money_refused, order_refusals, mark, taker_of, trades_needed, trades_refused, trades_against}
 use Rattle.rules.specs.Bounds.{in_auction}
 use Rattle.rules.specs.Change.{unmarked}
 use Rattle.rules.specs.Exchange.{Exchange, Listing, best_price, listing_at, lots_where, no_listing, opposite, own, place_of, resting, worse}
@@ -147,7 +147,7 @@ plain_enter t lots price day last mine others = rw (plain_sweep t lots last othe
 
 plain_entered_lem : (t : Taker) (o : NewOrder) (l : Listing) → entered_by (plain_taker t) o (plain_listing l) ≡ plain_entered (entered_by t o l)
 plain_entered_lem t o l =
-    rw (plain_own o.sell l, plain_opposite o.sell l, plain_whole t o.lots (limit_of o.condition) (own o.sell l) (opposite o.sell l), plain_enter t o.lots (limit_of o.condition) (isGoodForDay o.time) l.contract.last (own o.sell l) (opposite o.sell l))
+    rw (plain_own o.sell l, plain_opposite o.sell l, plain_whole t o.lots (limit_of o.condition) (own o.sell l) (opposite o.sell l), plain_enter t o.lots (limit_of o.condition) (is_good_for_day o.time) l.contract.last (own o.sell l) (opposite o.sell l))
     (by_auction (in_auction l.contract) _ _)
   where
     by_auction : (b : Bool) (d e : Entered) → pick b (plain_entered d) (plain_entered e) ≡ plain_entered (pick b d e)
@@ -160,20 +160,20 @@ module _ (x : Exchange) where
   plain_listing_lem c = List·getD-map plain_listing x.listings c no_listing
 
   module _ (o : NewOrder) where
-    plain_listing_of : listingOf (without_marks x) o ≡ plain_listing (listingOf x o)
-    unfolding listingOf
+    plain_listing_of : listing_of (without_marks x) o ≡ plain_listing (listing_of x o)
+    unfolding listing_of
     plain_listing_of = plain_listing_lem (place_of o.contract)
 
     plain_taker_lem : (number quote : ℕ) → taker_of (without_marks x) number 0 o ≡ plain_taker (taker_of x number quote o)
     unfolding taker_of without_marks
-    plain_taker_lem number quote = rw (plain_listing_of, plain_opposite o.sell (listingOf x o), plain_best (opposite o.sell (listingOf x o))) refl
+    plain_taker_lem number quote = rw (plain_listing_of, plain_opposite o.sell (listing_of x o), plain_best (opposite o.sell (listing_of x o))) refl
 
     -- IT MAKES THE SAME TRADES, AND AS MANY LOTS REST
     pub entered_unmarked : (number quote : ℕ) → entered_of (without_marks x) number 0 o ≡ plain_entered (entered_of x number quote o)
     unfolding entered_of
     entered_unmarked number quote =
-        ap (λ (t : Taker). entered_by t o (listingOf (without_marks x) o)) (plain_taker_lem number quote)
-        ∙ ap (entered_by (plain_taker (taker_of x number quote o)) o) plain_listing_of ∙ plain_entered_lem (taker_of x number quote o) o (listingOf x o)
+        ap (λ (t : Taker). entered_by t o (listing_of (without_marks x) o)) (plain_taker_lem number quote)
+        ∙ ap (entered_by (plain_taker (taker_of x number quote o)) o) plain_listing_of ∙ plain_entered_lem (taker_of x number quote o) o (listing_of x o)
 
     -- ---- .. AND IT LEAVES THE SAME STATE, MARKS ASIDE
 
@@ -185,7 +185,7 @@ module _ (x : Exchange) where
     plain_exchange : (e : Entered) (next : ℕ) → without_marks (exchange_after x o e next) ≡ exchange_after (without_marks x) o (plain_entered e) next
     unfolding without_marks exchange_after
     plain_exchange e next =
-        rw (plain_listing_of, map_set plain_listing x.listings (place_of o.contract) (listing_after (listingOf x o) o.sell e), plain_after o.sell (listingOf x o) e) refl
+        rw (plain_listing_of, map_set plain_listing x.listings (place_of o.contract) (listing_after (listing_of x o) o.sell e), plain_after o.sell (listing_of x o) e) refl
 
     pub after_unmarked : (number quote next : ℕ) →
         without_marks (exchange_after x o (entered_of x number quote o) next) ≡ exchange_after (without_marks x) o (entered_of (without_marks x) number 0 o) next
@@ -195,25 +195,25 @@ module _ (x : Exchange) where
 
     -- ---- it is refused for the same
 
-    plain_contract : (listingOf (without_marks x) o).contract ≡ (listingOf x o).contract
+    plain_contract : (listing_of (without_marks x) o).contract ≡ (listing_of x o).contract
     plain_contract = ap (λ (l : Listing). l.contract) plain_listing_of
 
-    plain_fillable : fillableLots (without_marks x) o ≡ fillableLots x o
-    unfolding fillableLots without_marks
+    plain_fillable : fillable_lots (without_marks x) o ≡ fillable_lots x o
+    unfolding fillable_lots without_marks
     plain_fillable =
-        ap (λ (t : Taker). fillable t (opposite o.sell (listingOf (without_marks x) o))) (plain_taker_lem x.next 0)
+        ap (λ (t : Taker). fillable t (opposite o.sell (listing_of (without_marks x) o))) (plain_taker_lem x.next 0)
         ∙ ap (λ (l : Listing). fillable (plain_taker (taker_of x x.next 0 o)) (opposite o.sell l)) plain_listing_of
-        ∙ rw (plain_opposite o.sell (listingOf x o)) (plain_counterparts (taker_of x x.next 0 o) (opposite o.sell (listingOf x o)))
+        ∙ rw (plain_opposite o.sell (listing_of x o)) (plain_counterparts (taker_of x x.next 0 o) (opposite o.sell (listing_of x o)))
 
-    plain_trades : (number : ℕ) → tradesNeeded (without_marks x) number o ≡ tradesNeeded x number o
-    unfolding tradesNeeded tradesAgainst
+    plain_trades : (number : ℕ) → trades_needed (without_marks x) number o ≡ trades_needed x number o
+    unfolding trades_needed trades_against
     plain_trades number =
-        rw (plain_taker_lem number 0, plain_listing_of, plain_opposite o.sell (listingOf x o), plain_sweep (taker_of x number 0 o) o.lots (listingOf x o).contract.last (opposite o.sell (listingOf x o))) refl
+        rw (plain_taker_lem number 0, plain_listing_of, plain_opposite o.sell (listing_of x o), plain_sweep (taker_of x number 0 o) o.lots (listing_of x o).contract.last (opposite o.sell (listing_of x o))) refl
 
-    plain_holding : holdingRefused (without_marks x) o ≡ holdingRefused x o
-    unfolding holdingRefused without_marks
+    plain_holding : holding_refused (without_marks x) o ≡ holding_refused x o
+    unfolding holding_refused without_marks
     plain_holding =
-        rw (plain_listing_of, plain_own o.sell (listingOf x o), plain_resting (mark o.close) (place_of o.account) (own o.sell (listingOf x o))) refl
+        rw (plain_listing_of, plain_own o.sell (listing_of x o), plain_resting (mark o.close) (place_of o.account) (own o.sell (listing_of x o))) refl
 
 plain_charged : (x : Exchange) (a n : ℕ) → charged_to (without_marks x) a n ≡ charged_to x a n
 unfolding charged_to charged_lots without_marks
@@ -222,21 +222,21 @@ plain_charged x a (suc c) =
     rw (plain_charged x a c, plain_listing_lem x c, plain_resting 0 a (listing_at x c).buys, plain_resting 0 a (listing_at x c).sells) refl
 
 module _ (x : Exchange) (o : NewOrder) where
-  plain_money : moneyRefused (without_marks x) o ≡ moneyRefused x o
-  unfolding moneyRefused without_marks
+  plain_money : money_refused (without_marks x) o ≡ money_refused x o
+  unfolding money_refused without_marks
   plain_money =
       rw (length-map x.listings plain_listing, plain_charged (with_open x (place_of o.account) (place_of o.contract) o.sell o.lots) (place_of o.account) (length x.listings)) refl
 
-  plain_length : length (own o.sell (listingOf (without_marks x) o)) ≡ length (own o.sell (listingOf x o))
-  plain_length = rw (plain_listing_of x o, plain_own o.sell (listingOf x o)) (length-map (own o.sell (listingOf x o)) unmarked)
+  plain_length : length (own o.sell (listing_of (without_marks x) o)) ≡ length (own o.sell (listing_of x o))
+  plain_length = rw (plain_listing_of x o, plain_own o.sell (listing_of x o)) (length-map (own o.sell (listing_of x o)) unmarked)
 
-  plain_room : (number : ℕ) → tradesRefused (without_marks x) number o ≡ tradesRefused x number o
-  unfolding tradesRefused without_marks
+  plain_room : (number : ℕ) → trades_refused (without_marks x) number o ≡ trades_refused x number o
+  unfolding trades_refused without_marks
   plain_room number = rw (plain_trades x o number) refl
 
   -- ON THE STATE WITHOUT ITS MARKS AN ORDER HAS THE SAME REFUSALS
-  pub refusals_unmarked : orderRefusals (without_marks x) o ≡ orderRefusals x o
-  unfolding orderRefusals
+  pub refusals_unmarked : order_refusals (without_marks x) o ≡ order_refusals x o
+  unfolding order_refusals
   refusals_unmarked =
       rw (plain_contract x o, plain_holding x o, plain_money, plain_fillable x o, plain_room (without_marks x).next, plain_length, plain_next, plain_stamps) refl
     where

@@ -1,7 +1,7 @@
 -- `changing::change` meets its contract: each return by its law in Changing.antt. Assumes nothing.
 use mathlib.Core.Path.{◌≡◌, sym, ap, ◌∙◌}
 use native.Mathlib.Omega.{arith}
-use Rattle.rules.specs.Answers.{first_of, namedRefusals, notContinuous}
+use Rattle.rules.specs.Answers.{first_of, named_refusals, not_continuous}
 use Rattle.rules.specs.Exchange.{place_of}
 use Rattle.rules.specs.Memory.{exchange_of, memory}
 use Rattle.theory.proofs.Refusals.{Failed, failed}
@@ -35,13 +35,13 @@ there c = begun (accepted-so-far (stands (found c))).before
 -- ---- what the tests have shown
 
 zero : (c : tie.Else1) → let start = begun c.before in let k = start.args.asked in
-    first_of (namedRefusals (exchange_of (memory start.args.state start.args.buys.now start.args.sells.now start.args.trades.now))
-    notContinuous k.account k.contract) ≡ 0
+    first_of (named_refusals (exchange_of (memory start.args.state start.args.buys.now start.args.sells.now start.args.trades.now))
+    not_continuous k.account k.contract) ≡ 0
 zero c = sym (c.before.continuous-code.ensures.first (begun c.before).requires.0.declared _ _ _) ∙ c.if1.false
 
 none : (c : tie.Else1) → let start = begun c.before in let k = start.args.asked in
-    Failed (namedRefusals (exchange_of (memory start.args.state start.args.buys.now start.args.sells.now start.args.trades.now))
-    notContinuous k.account k.contract)
+    Failed (named_refusals (exchange_of (memory start.args.state start.args.buys.now start.args.sells.now start.args.trades.now))
+    not_continuous k.account k.contract)
 none c = failed _ (omega arith) (zero c)
 
 listing : (c : tie.After-listed-at) → let start = begun (accepted-so-far c).before in c.listed_at.result ≡ listed_in start.args.state (place_of start.args.asked.contract)

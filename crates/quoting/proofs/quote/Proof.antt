@@ -4,7 +4,7 @@ use mathlib.Core.Bool.{true, false}
 use mathlib.Core.Path.{◌≡◌, refl, sym, ◌∙◌}
 use Prim.Native.Nat.{◌<◌}
 use native.Mathlib.Omega.{arith}
-use Rattle.rules.specs.Answers.{first_of, namedRefusals, notContinuous}
+use Rattle.rules.specs.Answers.{first_of, named_refusals, not_continuous}
 use Rattle.rules.specs.Bounds.{max_contracts}
 use Rattle.rules.specs.Exchange.{place_of}
 use Rattle.rules.specs.Memory.{exchange_of, memory}
@@ -61,8 +61,8 @@ none : (c : tie.Else1) → let start = Begun c in
 none c = sym (c.before.early-code.ensures (Begun c).requires.0.declared _ _ _) ∙ c.if1.false
 
 named : (c : tie.Else1) → let start = Begun c in
-    Failed (namedRefusals (exchange_of (memory start.args.state start.args.buys.now start.args.sells.now start.args.trades.now))
-    notContinuous start.args.q.account start.args.q.contract)
+    Failed (named_refusals (exchange_of (memory start.args.state start.args.buys.now start.args.sells.now start.args.trades.now))
+    not_continuous start.args.q.account start.args.q.contract)
 named c = named_passed _ _ _ (Begun c).args.q.buy (Begun c).args.q.sell (none c)
 
 here : (c : tie.Else1) → place_of (Begun c).args.q.contract < (Begun c).args.state.contractcount

@@ -4,7 +4,7 @@ use mathlib.Core.Bool.{true, false}
 use mathlib.Core.Path.{◌≡◌, refl, sym, ◌∙◌}
 use Prim.Native.Nat.{◌<◌}
 use native.Mathlib.Omega.{arith}
-use Rattle.rules.specs.Answers.{first_of, namedRefusals, notContinuous}
+use Rattle.rules.specs.Answers.{first_of, named_refusals, not_continuous}
 use Rattle.rules.specs.Exchange.{place_of}
 use Rattle.rules.specs.Memory.{exchange_of, memory}
 use Rattle.theory.proofs.Refusals.{Failed}
@@ -64,8 +64,8 @@ none : (c : tie.Else1) → let start =
 none c = sym (c.before.early-code.ensures (Begun c).requires.declared _ _ _) ∙ c.if1.false
 
 named : (c : tie.Else1) → let start =
-    Begun c in Failed (namedRefusals (exchange_of (memory start.args.state start.args.buys.now start.args.sells.now start.args.trades.now))
-    notContinuous start.args.account start.args.contract)
+    Begun c in Failed (named_refusals (exchange_of (memory start.args.state start.args.buys.now start.args.sells.now start.args.trades.now))
+    not_continuous start.args.account start.args.contract)
 named c = let start = Begun c in named_passed _ _ _ start.args.buy start.args.sell (none c)
 
 here : (c : tie.Else1) → let start = Begun c in place_of start.args.contract < start.args.state.contractcount

@@ -3,7 +3,7 @@ use mathlib.Core.Path.{◌≡◌, sym, ◌∙◌}
 use Prim.Native.Nat.{◌<◌}
 use borrow.Author.Rules.{rules}
 use Rattle.rules.specs.Bounds.{max_contracts}
-use Rattle.rules.specs.Answers.{first_of, pullRefusals}
+use Rattle.rules.specs.Answers.{first_of, pull_refusals}
 use Rattle.rules.specs.Memory.{exchange_of, memory}
 use Rattle.engine.proofs.Formed.{formed}
 use Rattle.engine.proofs.Removals.{account_low, contract_low, contract_fits, bids_room, bids_once, offers_room, offers_once, cancel_refused, bid_done, bid_another, offer_refused, offer_done}
@@ -16,7 +16,7 @@ start c = c.before.before.before.before
 -- ---- what the tests have shown
 
 none : (c : tie.Else1) → let begun = start c.before in
-    first_of (pullRefusals (exchange_of (memory begun.args.state begun.args.buys.now begun.args.sells.now begun.args.trades.now))
+    first_of (pull_refusals (exchange_of (memory begun.args.state begun.args.buys.now begun.args.sells.now begun.args.trades.now))
     begun.args.account begun.args.contract begun.args.operator) ≡ 0
 none c = sym (c.before.refusal.ensures (start c.before).requires.declared _ _ _) ∙ c.if1.false
 

@@ -6,7 +6,7 @@ use Prim.Native.Nat.{◌-◌, ◌<◌}
 use native.Mathlib.Omega.{arith}
 use borrow.Author.Rules.{rules}
 use lib.ListN.{get_or}
-use Rattle.rules.specs.Answers.{first_of, pullRefusals, removalRefused}
+use Rattle.rules.specs.Answers.{first_of, pull_refusals, removal_refused}
 use Rattle.rules.specs.Exchange.{no_contract, is_absent}
 use Rattle.rules.specs.declared.Contract.{Contract}
 use Rattle.engine.proofs.Named.{one_absent, forbidden, allowed}
@@ -20,7 +20,7 @@ Past-absent c = c.before.before.before.before
 
 -- the test of 4
 abbrev refused : Bool → Contract → Bool
-refused operator terms = removalRefused terms operator
+refused operator terms = removal_refused terms operator
 
 account : (c : tie.Else1) → is_absent c.before.before.args.account c.before.before.args.state.accountcount ≡ false
 account c = c.before.absent-code.ensures.account_in_use_lem c.if1.false
@@ -34,22 +34,22 @@ place c = rw c.place_of.ensures (place_below c.before.before.before.args.contrac
 phase : (c : tie.After-is-refused)
     → let there = c.before.before.before.before in
     let a = there.before.before.args in
-    c.is-refused.result ≡ removalRefused (get_or a.state.contracts (a.contract - 1) no_contract) a.operator
+    c.is-refused.result ≡ removal_refused (get_or a.state.contracts (a.contract - 1) no_contract) a.operator
 phase c = c.is-refused.ensures ∙ rw c.before.before.before.place_of.ensures
 
 returns : tie.Need-returns
-unfolding pullRefusals
+unfolding pull_refusals
 returns c = λ d buys sells trades. one_absent d c.before.before.requires.1 buys sells trades _ _ _ c.before.absent-code.ensures c.if1.true
 
 returns-2 : tie.Need-returns-2
-unfolding pullRefusals
+unfolding pull_refusals
 returns-2 c = λ d buys sells trades.
     let start = (Past-absent c.before).before.before in
     let there = Past-absent c.before in
     forbidden d start.pre.1 buys sells trades (refused start.args.operator) _ _ [] (account there) (contract there) (sym (phase c.before) ∙ c.if2.true)
 
 returns-3 : tie.Need-returns-3
-unfolding pullRefusals first_of
+unfolding pull_refusals first_of
 returns-3 c = λ d buys sells trades.
     let start = (Past-absent c.before).before.before in
     let there = Past-absent c.before in

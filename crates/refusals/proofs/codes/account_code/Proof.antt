@@ -2,7 +2,7 @@
 use Rattle.refusals.proofs.Inserting.{place_fits, own_room, rested_low, lots_are}
 use mathlib.Core.Path.{◌≡◌, refl}
 use borrow.Author.Rules.{rules}
-use Rattle.rules.specs.Answers.{first_of, holdingRefused}
+use Rattle.rules.specs.Answers.{first_of, holding_refused}
 use Rattle.rules.specs.Memory.{exchange_of, memory}
 use Rattle.refusals.proofs.codes.account_code.Statement.{statement}
 use Rattle.refusals.proofs.codes.account_code.Tie as tie
@@ -21,7 +21,7 @@ Own c = c.before.before.before.before.before
 
 -- 8, as the rules test it
 lots : (c : tie.After-lots-refused) → let start = Begun (Place-of c.before.before) in
-    c.lots-refused.result ≡ holdingRefused (exchange_of (memory start.args.state start.args.buys.now start.args.sells.now start.args.trades.now)) start.args.o
+    c.lots-refused.result ≡ holding_refused (exchange_of (memory start.args.state start.args.buys.now start.args.sells.now start.args.trades.now)) start.args.o
 lots c =
     let start = Begun (Place-of c.before.before) in
     lots_are start.pre.0 start.args.o start.pre.1 (Place-of c.before.before).place_of.ensures (Own c).side-area.ensures

@@ -1,7 +1,7 @@
 -- `codes::book_code` meets its contract: the tests in the order of the list. Assumes nothing.
 use mathlib.Core.Path.{◌≡◌, refl, sym, ◌∙◌}
 use borrow.Author.Rules.{rules}
-use Rattle.rules.specs.Answers.{killRefused, fullRefused}
+use Rattle.rules.specs.Answers.{kill_refused, full_refused}
 use Rattle.rules.specs.Bounds.{in_auction}
 use Rattle.rules.specs.declared.NewOrder.{NewOrder}
 use Rattle.refusals.proofs.Inserting.{book_tests}
@@ -19,7 +19,7 @@ Kill-refused c = c.before.before
 returns-2 : tie.Need-returns-2
 returns-2 c = λ x m.
     let o : NewOrder = (Begun c.before).args.o in
-    let e : c.before.kill-refused.result ≡ killRefused _ o.lots o.time = c.before.kill-refused.ensures in
+    let e : c.before.kill-refused.result ≡ kill_refused _ o.lots o.time = c.before.kill-refused.ensures in
     sym (book_tests m ∙ rw (← c.before.before.before.used-up.ensures, c.before.before.if1.false, ← e, c.if2.true) refl)
 
 returns-3 : tie.Need-returns-3
@@ -39,7 +39,7 @@ returns-4 c =
     λ x m.
     let start = Begun kill-refused in
     let o : NewOrder = start.args.o in
-    let e : c.before.full-refused.result ≡ fullRefused (in_auction start.args.terms) start.args.own _ o.lots o.time = c.before.full-refused.ensures in
+    let e : c.before.full-refused.result ≡ full_refused (in_auction start.args.terms) start.args.own _ o.lots o.time = c.before.full-refused.ensures in
     sym (book_tests m ∙ rw (
       ← kill-refused.before.before.used-up.ensures,
       kill-refused.before.if1.left,

@@ -5,7 +5,7 @@ use mathlib.Core.Path.{◌≡◌, sym, ap}
 use native.Mathlib.Omega.{arith}
 use borrow.Author.Rules.{rules}
 use borrow.Author.Tests.{eq-eqb, ne_eqb}
-use Rattle.rules.specs.Answers.{first_of, notContinuous}
+use Rattle.rules.specs.Answers.{first_of, not_continuous}
 use Rattle.rules.specs.Exchange.{is_absent}
 use Rattle.engine.proofs.Named.{one_absent, forbidden, allowed}
 use Rattle.engine.proofs.Tests.{place_below}
@@ -43,7 +43,7 @@ returns-2 c =
     record {
       first = λ d buys sells trades.
           let there = Past-if1 c in
-          forbidden d there.before.before.pre.1 buys sells trades notContinuous _ _ [] (account there) (contract there)
+          forbidden d there.before.before.pre.1 buys sells trades not_continuous _ _ [] (account there) (contract there)
           (ap not (ne_eqb _ _ (rw c.before.before.before.before.place_of.ensures at c.if2.true)));
       account_in_use_lem = λ e. absurd (omega arith);
     }
@@ -54,7 +54,7 @@ returns-3 c =
     record {
       first = λ d buys sells trades.
           let there = Past-absent c in
-          sym (allowed d there.before.before.pre.1 buys sells trades notContinuous _ _ [] (account there) (contract there)
+          sym (allowed d there.before.before.pre.1 buys sells trades not_continuous _ _ [] (account there) (contract there)
           (ap not (eq-eqb _ _ (rw c.before.before.before.before.place_of.ensures at c.if2.false))));
       account_in_use_lem = λ e. account (Past-absent c);
     }

@@ -1,15 +1,15 @@
 -- `codes::lots_refused` meets its contract: one case for a close, one for an open. Assumes nothing.
 use borrow.Author.Rules.{rules}
-use Rattle.rules.specs.Answers.{lotsRefused}
+use Rattle.rules.specs.Answers.{lots_refused}
 use Rattle.refusals.proofs.codes.lots_refused.Statement.{statement}
 use Rattle.refusals.proofs.codes.lots_refused.Tie as tie
 
 returns : tie.Need-returns
-unfolding lotsRefused
+unfolding lots_refused
 returns c = rw (c.before.before.if1.true, c.wide642.ensures, c.before.by_side.ensures, c.before.before.before.wide64.ensures)
 
 returns-2 : tie.Need-returns-2
-unfolding lotsRefused
+unfolding lots_refused
 returns-2 c = rw (c.before.before.before.if1.false, c.wide644.ensures, c.before.wide643.ensures, c.before.before.by-side2.ensures, c.before.before.before.before.wide64.ensures)
 
 pub lots-refused-spec : {M : Type 1} → statement M

@@ -1,7 +1,7 @@
 -- `codes::order_code` meets its contract: the parts of the list one after the other. Assumes nothing.
 use mathlib.Core.Path.{◌≡◌}
 use borrow.Author.Rules.{rules}
-use Rattle.rules.specs.Answers.{conditionsRefused, fieldsRefusals, first_of, listingOf}
+use Rattle.rules.specs.Answers.{conditions_refused, fields_refusals, first_of, listing_of}
 use Rattle.rules.specs.Memory.{exchange_of, memory}
 use Rattle.refusals.proofs.Inserting.{place_fits, terms_in_range_lem, fields_are, code_fields, lots_few, code_lots_or_money, code_book, opposite_room, facing, recorded_high, meets, taker_here}
 use Rattle.refusals.proofs.codes.order_code.Statement.{statement}
@@ -23,8 +23,8 @@ Stands c = c.before.before.before.before
 
 -- 5 to 7, as the rules test them
 fields : (c : tie.After-fields-code) → let start = Begun c in
-    let listing = listingOf (exchange_of (memory start.args.state start.args.buys.now start.args.sells.now start.args.trades.now)) start.args.o in
-    c.fields-code.result ≡ first_of (fieldsRefusals (conditionsRefused listing.contract start.args.o) listing.contract start.args.o)
+    let listing = listing_of (exchange_of (memory start.args.state start.args.buys.now start.args.sells.now start.args.trades.now)) start.args.o in
+    c.fields-code.result ≡ first_of (fields_refusals (conditions_refused listing.contract start.args.o) listing.contract start.args.o)
 fields c =
     let start = Begun c in
     fields_are start.pre.0 start.args.o start.pre.1 (Named c).place_of.ensures c.before.conditions-refused.ensures c.fields-code.ensures

@@ -2,7 +2,7 @@
 use mathlib.Core.Path.{◌≡◌}
 use Prim.Native.Nat.{◌-◌}
 use borrow.Author.Rules.{rules}
-use Rattle.rules.specs.Answers.{tradesRefused}
+use Rattle.rules.specs.Answers.{trades_refused}
 use Rattle.rules.specs.Memory.{exchange_of, memory}
 use Rattle.refusals.specs.Insertion.{QueueRoom}
 use Rattle.refusals.proofs.Inserting.{place_fits, opposite_room, recorded_high, trades_are}
@@ -35,7 +35,7 @@ room c =
 -- 12, as the rules test it
 trades : (c : tie.After-trades-refused) → let begun = start (placed (counted c.before.before)) in
     c.trades-refused.result
-    ≡ tradesRefused (exchange_of (memory begun.args.state begun.args.buys.now begun.args.sells.now begun.args.trades.now)) begun.args.number begun.args.o
+    ≡ trades_refused (exchange_of (memory begun.args.state begun.args.buys.now begun.args.sells.now begun.args.trades.now)) begun.args.number begun.args.o
 trades c =
     let faced = c.before.before in
     let begun = start (placed (counted faced)) in
