@@ -13,7 +13,7 @@ use Rattle.rules.specs.Exchange.{Exchange, listing_at, holding_at}
 use Rattle.rules.specs.Settlement.{Leg, leg, legs, Batch, Day, day_start, gain, first_lots, other_lots, with_batch, after_day_leg, after_legs, day_of, holding_gain, settlement_price}
 use Rattle.rules.specs.WellFormed.{well_formed_contents}
 use Rattle.accounting.specs.DayLegs.{Covered, AllCovered}
-use Rattle.accounting.specs.Pairing.{Side, long, short, opens, closes, Lot, no_lot, lots_of_legs, open_lots, closed_lots, Pairing, gained, closing_by, in_order_lem, held_at_start, open_of, closed_of, PairsDay, day_closing, day_holding}
+use Rattle.accounting.specs.Pairing.{Side, long, short, opens, closes, Lot, no_lot, lots_of_legs, open_lots, closed_lots, Pairing, gained, closing_by, in_order, held_at_start, open_of, closed_of, PairsDay, day_closing, day_holding}
 use Rattle.accounting.proofs.AnyPairing.{any_pairing}
 use Rattle.accounting.proofs.DayProfit.{lots_opened, lots_other, lots_start}
 use Rattle.accounting.proofs.Facts.{facts}
@@ -330,12 +330,12 @@ module _ (x : Exchange) (w : well_formed_contents x ≡ true) (a c : ℕ) where
       (legs a c x.trades) (lots_start _ _ _).1 (day_covered x (facts x w).replay a c)
 
   -- the rule's order is a pairing
-  pub first_in_pairs : PairsDay x a c in_order_lem
+  pub first_in_pairs : PairsDay x a c in_order
   unfolding PairsDay
   first_in_pairs side = before_pairing (open_of x a c side) (closed_of x a c side) (before side)
 
   -- whose closing part is the rule's
-  pub first_in_closing : day_closing x a c in_order_lem ≡ (day_of x a c).closing
+  pub first_in_closing : day_closing x a c in_order ≡ (day_of x a c).closing
   unfolding day_closing open_of closed_of held_at_start day_of day_start
   first_in_closing =
       ap₂ (λ (l s : ℤ). l +ℤ s)
@@ -346,10 +346,10 @@ module _ (x : Exchange) (w : well_formed_contents x ≡ true) (a c : ℕ) where
       (legs a c x.trades) (day_covered x (facts x w).replay a c))
 
   -- and so its holding part
-  pub first_in_holding : day_holding x a c in_order_lem ≡ holding_gain (settlement_price x c) (day_of x a c)
+  pub first_in_holding : day_holding x a c in_order ≡ holding_gain (settlement_price x c) (day_of x a c)
   first_in_holding =
-      same (day_closing x a c in_order_lem) (day_holding x a c in_order_lem) (day_of x a c).closing (holding_gain (settlement_price x c) (day_of x a c))
-      first_in_closing (any_pairing x a c in_order_lem first_in_pairs)
+      same (day_closing x a c in_order) (day_holding x a c in_order) (day_of x a c).closing (holding_gain (settlement_price x c) (day_of x a c))
+      first_in_closing (any_pairing x a c in_order first_in_pairs)
     where
       same : (p q u v : ℤ) → p ≡ u → p +ℤ q ≡ u +ℤ v → q ≡ v
       same p q u v e f =

@@ -18,7 +18,7 @@ use Rattle.accounting.specs.Shape.{Shaped}
 use Rattle.accounting.proofs.Declared.{Counts, counted_shaped, put_declared, shaped_fits}
 use Rattle.accounting.proofs.EachKind.{kind_shape}
 use Rattle.accounting.proofs.StepShape.{SameShape, same_shape}
-use Rattle.invariants.specs.ByPlace.{WrittenByPlace, account_in_use, area_of, by_place_lem, contract_in_use, counts_of, in_one, order_in_use, trade_in_use}
+use Rattle.invariants.specs.ByPlace.{WrittenByPlace, account_in_use, area_of, by_place, contract_in_use, counts_of, in_one, order_in_use, trade_in_use}
 use Rattle.invariants.proofs.Clauses.{Counted}
 use Rattle.invariants.proofs.EachKind.{kind_counted}
 use Rattle.invariants.proofs.MemoryKeeps.{Writable, both_each, counted, shaped_as, sound}
@@ -36,7 +36,7 @@ in_the_one test x = by_test (test x) refl
     by_test false e = rw e
 
 -- a place in use in neither of two states
-neither : (s t : Bool) (word was : ℕ) → s ≡ false → t ≡ false → was ≡ by_place_lem s t word was
+neither : (s t : Bool) (word was : ℕ) → s ≡ false → t ≡ false → was ≡ by_place s t word was
 neither s t word was p q = rw (p, q)
 
 -- ---- values in the first places of an array
@@ -94,7 +94,7 @@ module _ (m : Memory) (counts : CountsOk m.state) (room : RoomOk m) (arrays : De
       queue_stride * m.state.contractcount ≤ length area →
       (c i word : ℕ) → i < max_resting → word < order_stride →
       get_or (put_queues area cs (λ c. side (listing_at x c)) m.state.contractcount) (first_word c i + word) 0
-      ≡ by_place_lem (ltb i (length (side (listing_at x c)))) (in_one (λ y. ltb i (length (side (listing_at y c)))) (exchange_of m ∷ []))
+      ≡ by_place (ltb i (length (side (listing_at x c)))) (in_one (λ y. ltb i (length (side (listing_at y c)))) (exchange_of m ∷ []))
       (word_of word (get_or (side (listing_at x c)) i no_order)) (get_or area (first_word c i + word) 0)
   side_by_place area cs side none counted before after fits c i word place b = by_listed (ltb c m.state.contractcount) refl
     where
@@ -102,7 +102,7 @@ module _ (m : Memory) (counts : CountsOk m.state) (room : RoomOk m) (arrays : De
       in_place y = ltb i (length (side (listing_at y c)))
 
       word_at : Bool → ℕ → ℕ
-      word_at t was = by_place_lem (in_place x) t (word_of word (get_or (side (listing_at x c)) i no_order)) was
+      word_at t was = by_place (in_place x) t (word_of word (get_or (side (listing_at x c)) i no_order)) was
 
       empty : (y : Exchange) → length y.listings ≤ c → in_place y ≡ false
       empty y h = ap (λ (l : Listing). ltb i (length (side l))) (not_listed y c h) ∙ ap (λ (q : List Order). ltb i (length q)) none ∙ le-ltb i 0 (omega arith)
@@ -123,7 +123,7 @@ module _ (m : Memory) (counts : CountsOk m.state) (room : RoomOk m) (arrays : De
           (in_the_one in_place (exchange_of m) ∙ empty (exchange_of m) (omega (arith, contracts_in_use m)))
 
   orders_by_place : (sell : Bool) (c i word : ℕ) → i < max_resting → word < order_stride → get_or (area_of sell (put m x)) (first_word c i + word) 0
-      ≡ by_place_lem (order_in_use sell c i x) (in_one (order_in_use sell c i) (exchange_of m ∷ [])) (word_of word (get_or (own sell (listing_at x c)) i no_order))
+      ≡ by_place (order_in_use sell c i x) (in_one (order_in_use sell c i) (exchange_of m ∷ [])) (word_of word (get_or (own sell (listing_at x c)) i no_order))
       (get_or (area_of sell m) (first_word c i + word) 0)
   unfolding put listing_in
   orders_by_place true =
@@ -134,12 +134,12 @@ module _ (m : Memory) (counts : CountsOk m.state) (room : RoomOk m) (arrays : De
       (λ c l. few.queues c false (rw contracts l)) room.buys
 
   trades_by_place : (i word : ℕ) → word < trade_stride → get_or (put m x).trades (trade_stride * i + word) 0
-      ≡ by_place_lem (trade_in_use i x) (in_one (trade_in_use i) (exchange_of m ∷ [])) (get_or (trade_words (get_or x.trades i no_trade)) word 0)
+      ≡ by_place (trade_in_use i x) (in_one (trade_in_use i) (exchange_of m ∷ [])) (get_or (trade_words (get_or x.trades i no_trade)) word 0)
       (get_or m.trades (trade_stride * i + word) 0)
   unfolding put exchange_of
   trades_by_place i word b =
       word_put_trades m.trades m.state.tradecount x.trades i word b ∙ ap
-      (λ (t : Bool). by_place_lem (trade_in_use i x) t (get_or (trade_words (get_or x.trades i no_trade)) word 0) (get_or m.trades (trade_stride * i + word) 0))
+      (λ (t : Bool). by_place (trade_in_use i x) t (get_or (trade_words (get_or x.trades i no_trade)) word 0) (get_or m.trades (trade_stride * i + word) 0))
       (sym (in_the_one (trade_in_use i) (exchange_of m) ∙ ap (λ (n : ℕ). ltb i n) (length_trades m.trades m.state.tradecount)))
 
   counts_by_place : (sell : Bool) (c : ℕ) →
@@ -234,7 +234,7 @@ put_by_place m w arrays x shape few = let k = memory_ok m w in written_by_place 
 
 -- a word written twice: z over y, which was over x
 word_again : (z y x others : Bool) (word between was : ℕ) →
-    by_place_lem z (y || others) word (by_place_lem y (x || false) between was) ≡ by_place_lem z (x || (y || others)) word was
+    by_place z (y || others) word (by_place y (x || false) between was) ≡ by_place z (x || (y || others)) word was
 word_again true y x others word between was = refl
 word_again false true true others word between was = refl
 word_again false true false others word between was = refl
@@ -260,12 +260,12 @@ module _ (m : Memory) (x y z : Exchange) (others : List Exchange) (m' m'' : Memo
       record {
         orders = λ sell c i word place b.
             second.orders sell c i word place b
-            ∙ ap (by_place_lem (order_in_use sell c i z) (in_one (order_in_use sell c i) (y ∷ others)) (word_of word (get_or (own sell (listing_at z c)) i no_order)))
+            ∙ ap (by_place (order_in_use sell c i z) (in_one (order_in_use sell c i) (y ∷ others)) (word_of word (get_or (own sell (listing_at z c)) i no_order)))
             (first.orders sell c i word place b)
             ∙ word_again (order_in_use sell c i z) (order_in_use sell c i y) (order_in_use sell c i x) (in_one (order_in_use sell c i) others) _ _ _;
         trades = λ i word b.
             second.trades i word b
-            ∙ ap (by_place_lem (trade_in_use i z) (in_one (trade_in_use i) (y ∷ others)) (get_or (trade_words (get_or z.trades i no_trade)) word 0)) (first.trades i word b)
+            ∙ ap (by_place (trade_in_use i z) (in_one (trade_in_use i) (y ∷ others)) (get_or (trade_words (get_or z.trades i no_trade)) word 0)) (first.trades i word b)
             ∙ word_again (trade_in_use i z) (trade_in_use i y) (trade_in_use i x) (in_one (trade_in_use i) others) _ _ _;
         contracts = λ c.
             second.contracts c ∙ ap (λ v. pick (contract_in_use c z) (listing_at z c).contract v) (first.contracts c)

@@ -4,7 +4,7 @@ use Rattle.laws.specs.Logic.{Bool, true, false, not, ◌||◌, false≢true, Lis
 use Rattle.laws.specs.Numbers.{ℕ, ◌<◌, ◌≤◌, arith, eqb-true, eqb-false, ltb-true, ltb-false, eq-eqb, ne_eqb, le-leb, le-ltb, not-true, eqb, leb, ltb, length}
 use Rattle.laws.specs.Choice.{pick, pick_true, pick_false, all_of, all_of_imp, both_true, true_both, either_true, true_either, by_test}
 use Rattle.rules.specs.declared.Order.{Order}
-use Rattle.rules.specs.Auction.{apart, best_from, best_of_lem, better, chosen_price, resting_prices, smaller, surplus, volume}
+use Rattle.rules.specs.Auction.{apart, best_from, best_of, better, chosen_price, resting_prices, smaller, surplus, volume}
 use Rattle.rules.specs.AuctionFairness.{one_of}
 
 -- ---- a price is one of a list
@@ -150,8 +150,8 @@ module _ (preferred : ℕ → ℕ → Bool) (asym : (p q : ℕ) → preferred p 
           (i.0, true_both (not (preferred p b)) (all_of (λ k. not (preferred k b)) ps) (ap not (trans b first p i.0 e)) i.1)
 
   -- none is preferred to it
-  pub best_of_lem : (ps : List ℕ) → all_of (λ p. not (preferred p (best_of_lem preferred ps))) ps ≡ true
-  unfolding best_of_lem all_of
+  pub best_of_lem : (ps : List ℕ) → all_of (λ p. not (preferred p (best_of preferred ps))) ps ≡ true
+  unfolding best_of all_of
   best_of_lem [] = refl
   best_of_lem (p ∷ ps) =
       let i = best_from_lem p ps in
@@ -174,8 +174,8 @@ best_from_one preferred first (p ∷ ps) = cases (preferred p first) refl (λ k.
         rw (pick_false (preferred p first) p first e)
         (one_behind (eqb first (best_from preferred first ps)) (eqb p (best_from preferred first ps)) (one_of ps (best_from preferred first ps)) (ih first))
 
-pub best_of_one : (preferred : ℕ → ℕ → Bool) (ps : List ℕ) → 0 < length ps → one_of ps (best_of_lem preferred ps) ≡ true
-unfolding best_of_lem
+pub best_of_one : (preferred : ℕ → ℕ → Bool) (ps : List ℕ) → 0 < length ps → one_of ps (best_of preferred ps) ≡ true
+unfolding best_of
 best_of_one preferred [] h = absurd (omega arith)
 best_of_one preferred (p ∷ ps) h = best_from_one preferred p ps
 
@@ -184,19 +184,19 @@ best_of_one preferred (p ∷ ps) h = best_from_one preferred p ps
 module _ (preferred : ℕ → ℕ → Bool) (asym : (p q : ℕ) → preferred p q ≡ true → preferred q p ≡ false)
     (trans : (p q r : ℕ) → preferred q p ≡ false → preferred r q ≡ false → preferred r p ≡ false)
     (same : (p q : ℕ) → preferred p q ≡ false → preferred q p ≡ false → p ≡ q) where
-  only_best : (ps : List ℕ) (p : ℕ) → one_of ps p ≡ true → all_of (λ q. not (preferred q p)) ps ≡ true → p ≡ best_of_lem preferred ps
+  only_best : (ps : List ℕ) (p : ℕ) → one_of ps p ≡ true → all_of (λ q. not (preferred q p)) ps ≡ true → p ≡ best_of preferred ps
   only_best ps p here unbeaten =
-      let b = best_of_lem preferred ps in
+      let b = best_of preferred ps in
       same p b
       (not-true (preferred p b) (one_passes (λ q. not (preferred q b)) ps p (best_of_lem preferred asym trans ps) here))
       (not-true (preferred b p) (one_passes (λ q. not (preferred q p)) ps b unbeaten (best_of_one preferred ps (one_some ps p here))))
 
   -- two lists of the same prices
-  any_best : (ps qs : List ℕ) → ((p : ℕ) → one_of ps p ≡ one_of qs p) → best_of_lem preferred ps ≡ best_of_lem preferred qs
+  any_best : (ps qs : List ℕ) → ((p : ℕ) → one_of ps p ≡ one_of qs p) → best_of preferred ps ≡ best_of preferred qs
   any_best [] [] e = refl
   any_best [] (q ∷ qs) e = absurd (false≢true (unfold one_of in e q ∙ one_first q qs))
   any_best (p ∷ ps) qs e =
-      let b = best_of_lem preferred (p ∷ ps) in
+      let b = best_of preferred (p ∷ ps) in
       only_best qs b (sym (e b) ∙ best_of_one preferred (p ∷ ps) (omega arith))
       (ones_pass (λ q. not (preferred q b)) qs
       (λ q h. one_passes (λ q. not (preferred q b)) (p ∷ ps) q (best_of_lem preferred asym trans (p ∷ ps)) (e q ∙ h)))
@@ -228,7 +228,7 @@ module _ (last : ℕ) (buys sells : List Order) where
       only_best (better last buys sells) (better_asym last buys sells) (better_trans last buys sells) (better_same last buys sells) (resting_prices buys sells) price rests unbeaten
 
   -- SO THE ORDER OF THE PRICES DOES NOT MATTER: the best of any list of the same prices is the chosen one
-  pub chosen_of_any : (ps : List ℕ) → ((p : ℕ) → one_of ps p ≡ one_of (resting_prices buys sells) p) → best_of_lem (better last buys sells) ps ≡ chosen_price last buys sells
+  pub chosen_of_any : (ps : List ℕ) → ((p : ℕ) → one_of ps p ≡ one_of (resting_prices buys sells) p) → best_of (better last buys sells) ps ≡ chosen_price last buys sells
   unfolding chosen_price
   chosen_of_any ps e =
       any_best (better last buys sells) (better_asym last buys sells) (better_trans last buys sells) (better_same last buys sells) ps (resting_prices buys sells) e

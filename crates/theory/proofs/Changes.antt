@@ -5,7 +5,7 @@ use Rattle.laws.specs.Logic.{Bool, true, false, true≢false, List, [], ◌≡�
 use Rattle.laws.specs.Numbers.{ℕ, ◌+◌, ◌<◌, ◌≤◌, arith, eqb-true, eq-eqb, ne_eqb, le-ltb, eqb}
 use Rattle.laws.specs.Choice.{pick, by_test}
 use Rattle.rules.specs.Answers.{listing_of}
-use Rattle.rules.specs.Change.{Asked, arriving, asked, change_trades, changed, gone, is_sell, listing_lessened, loses_place, old_order, place_kept_lem, place_lost, reentered, unchanged}
+use Rattle.rules.specs.Change.{Asked, arriving, asked, change_trades, changed, gone, is_sell, listing_lessened, loses_place, old_order, place_kept, place_lost, reentered, unchanged}
 use Rattle.rules.specs.Exchange.{Exchange, Listing, listing_named, place_of}
 use Rattle.rules.specs.Kinds.{code_of, kind_of, last_of, step}
 use Rattle.rules.specs.Matching.{Entered}
@@ -28,13 +28,13 @@ module _ (x : Exchange) (k : Asked) where
   pub changed_either : (P : List Trade → Effect → Type 0) → (k.lots ≡ 0 → P [] (cancelled x (place_of k.contract) k.number))
       → (loses_place x k ≡ true → P (reentered x k).trades (place_lost x k))
       → (loses_place x k ≡ false → k.lots ≡ (old_order x k).lots → P [] (unchanged x k))
-      → (eqb k.lots 0 ≡ false → loses_place x k ≡ false → eqb k.lots (old_order x k).lots ≡ false → P [] (place_kept_lem x k))
+      → (eqb k.lots 0 ≡ false → loses_place x k ≡ false → eqb k.lots (old_order x k).lots ≡ false → P [] (place_kept x k))
       → P (change_trades x k) (changed x k)
   unfolding changed change_trades
   changed_either P zeroed lost equal kept = zeros (eqb k.lots 0) refl
     where
       left : Bool → Bool → Bool → Effect
-      left z l e = pick z (cancelled x (place_of k.contract) k.number) (pick l (place_lost x k) (pick e (unchanged x k) (place_kept_lem x k)))
+      left z l e = pick z (cancelled x (place_of k.contract) k.number) (pick l (place_lost x k) (pick e (unchanged x k) (place_kept x k)))
 
       equals : eqb k.lots 0 ≡ false → loses_place x k ≡ false → (e : Bool) → eqb k.lots (old_order x k).lots ≡ e → P [] (left false false e)
       equals z l true e = equal l (eqb-true k.lots (old_order x k).lots e)
@@ -86,7 +86,7 @@ module _ (x : Exchange) (k : Asked) (some : 1 ≤ k.lots) (same : k.price ≡ (o
   equal_unchanged e = rw (none_zero, place_kept_lem (omega arith), eq-eqb k.lots (old_order x k).lots e) refl
 
   -- "fewer lots keep the place in the queue"
-  pub fewer_kept : k.lots < (old_order x k).lots → changed x k ≡ place_kept_lem x k
+  pub fewer_kept : k.lots < (old_order x k).lots → changed x k ≡ place_kept x k
   unfolding changed
   fewer_kept h =
       rw (none_zero, place_kept_lem (omega arith), ne_eqb k.lots (old_order x k).lots (λ (e : k.lots ≡ (old_order x k).lots). omega arith)) refl
@@ -106,7 +106,7 @@ module _ (x : Exchange) (account contract number lots price : ℕ) where
     -- FEWER LOTS AT THE SAME PRICE ALTER THAT ORDER'S LOTS, DROP ITS MARK, AND DO NOTHING ELSE (`less_at` has the places of its queue)
     pub fewer_step : lots < (old_order x its).lots → code_of x (Change account contract number lots price) ≡ 0 →
         step x (Change account contract number lots price) ≡ with_listing x (place_of contract) (listing_lessened its (listing_named x its.contract))
-    unfolding step kind_of place_kept_lem
+    unfolding step kind_of place_kept
     fewer_step h a =
         decided (λ d. last_of x d.stages ≡ with_listing x (place_of contract) (listing_lessened its (listing_named x its.contract))) x (Change account contract number lots price)
         (λ q. ap (λ (f : Effect). last_of x f.stages) (fewer_kept x its some same h)) (λ r. absurd (r a))

@@ -7,15 +7,10 @@ use borrow.Author.Rules.{rules}
 use Rattle.book.proofs.queue.drop_front.Statement.{statement}
 use Rattle.book.proofs.queue.drop_front.Tie as tie
 
--- back to the start
-abbrev Begun : tie.After-close_up → tie.Start
-Begun c = c.before.before.before.before.before
-
 -- no order
 returns : tie.Need-returns-then-k-eq0
 returns c =
-    let start = c.before.before in
-    rw c.if-k-eq0.true (sym (put_queue_lem start.args.area.now start.args.c start.args.count start.requires.1))
+    rw c.if-k-eq0.true (sym (put_queue_lem c.args.area.now c.args.c c.args.count c.requires.1))
 
 -- one order
 returns-2 : tie.Need-returns-then-k-eq1
@@ -25,8 +20,7 @@ returns-2 c =
 
 returns-3 : tie.Need-returns
 returns-3 c =
-    let start = Begun c.before.before in
-    dropped_orders start.args.area.now start.args.c start.args.count start.args.k _ _ start.requires.0 refl start.requires.1 c.close_up.ensures
+    dropped_orders c.args.area.now c.args.c c.args.count c.args.k _ _ c.requires.0 refl c.requires.1 c.close_up.ensures
 
 pub drop_front_spec : {M : Type 1} → statement M
 drop_front_spec = tie.close (tie.spec

@@ -6,13 +6,11 @@ use Rattle.book.proofs.queue.insert.Tie as tie
 
 returns : tie.Need-returns
 returns c =
-    let placed = c.before.before.before.before in
-    let start = placed.before in
-    rested_order start.args.area.now start.args.c start.args.count start.args.sell _ start.args.o placed.place-i.ensures c.insert_at.ensures
+    rested_order c.args.area.now c.args.c c.args.count c.args.sell _ c.args.o c.place-i.ensures c.insert_at.ensures
 
 pub insert_spec : {M : Type 1} → statement M
 insert_spec = tie.close (tie.spec
     (λ c κs. search rules)  -- place-i-requires
-    (λ c κs. (found_within _ _ _ _ _ c.place-i.ensures, c.before.requires))  -- insert_at-requires
+    (λ c κs. (found_within _ _ _ _ _ c.place-i.ensures, c.requires))  -- insert_at-requires
     (λ c. search rules)  -- shape_of-area
     returns)

@@ -7,14 +7,9 @@ use Rattle.book.proofs.Queues.{inserted_order}
 use Rattle.book.proofs.queue.insert_at.Statement.{statement}
 use Rattle.book.proofs.queue.insert_at.Tie as tie
 
--- back to the start
-abbrev Begun : tie.After-shift → tie.Start
-Begun c = c.before.before.before
-
 returns : tie.Need-returns
 returns c =
-    let start = Begun c.before.before in
-    inserted_order start.args.area.now start.args.c start.args.count start.args.i start.args.o _ _ _ start.requires.0 refl refl start.requires.1 c.shift.ensures
+    inserted_order c.args.area.now c.args.c c.args.count c.args.i c.args.o _ _ _ c.requires.0 refl refl c.requires.1 c.shift.ensures
 
 pub insert_at_spec : {M : Type 1} → statement M
 insert_at_spec = tie.close (tie.spec

@@ -20,15 +20,11 @@ decreases-loop area c count sell price k₀ k = count - k
 
 returns : tie.Need-returns-then-worse invariant-loop decreases-loop
 returns c =
-    let read = c.before.before in
-    let at = read.before.before in
-    search_here _ _ _ _ _ _ at.loop-k.invariant.1 _ read.loop-k-test.true read.order_at-o.ensures (sym c.worse.ensures ∙ c.if-worse.true)
+    search_here _ _ _ _ _ _ c.loop-k.invariant.1 _ c.loop-k-test.true c.order_at-o.ensures (sym c.worse.ensures ∙ c.if-worse.true)
 
 loop-again : tie.Need-loop-k-preserved invariant-loop decreases-loop
 loop-again c =
-    let read = c.before.before in
-    let at = read.before.before in
-    (omega arith, search_on _ _ _ _ _ _ at.loop-k.invariant.1 _ read.loop-k-test.true read.order_at-o.ensures (sym c.worse.ensures ∙ c.if-worse.false))
+    (omega arith, search_on _ _ _ _ _ _ c.loop-k.invariant.1 _ c.loop-k-test.true c.order_at-o.ensures (sym c.worse.ensures ∙ c.if-worse.false))
 
 pub place_spec : {M : Type 1} → statement M
 place_spec = tie.close (tie.spec

@@ -5,14 +5,9 @@ use borrow.Author.Rules.{rules}
 use Rattle.book.proofs.queue.remove.Statement.{statement}
 use Rattle.book.proofs.queue.remove.Tie as tie
 
--- back to the start
-abbrev Begun : tie.After-close_up → tie.Start
-Begun c = c.before.before.before
-
 returns : tie.Need-returns
 returns c =
-    let start = Begun c.before.before in
-    removed_order start.args.area.now start.args.c start.args.count start.args.i _ _ _ start.requires.0 refl refl start.requires.1 c.close_up.ensures
+    removed_order c.args.area.now c.args.c c.args.count c.args.i _ _ _ c.requires.0 refl refl c.requires.1 c.close_up.ensures
 
 pub remove_spec : {M : Type 1} → statement M
 remove_spec = tie.close (tie.spec

@@ -7,10 +7,7 @@ use Rattle.book.proofs.queue.shift.Tie as tie
 
 returns : tie.Need-returns
 returns c =
-    let put = c.before.before in
-    let moved = put.before.before.before.before in
-    let start = moved.before.before.before in
-    put.put.ensures ∙ shift_in start.args.part.now _ start.args.o start.requires moved.move_back.ensures
+    c.put.ensures ∙ shift_in c.args.part.now _ c.args.o c.requires c.move_back.ensures
 
 pub shift_spec : {M : Type 1} → statement M
 shift_spec = tie.close (tie.spec

@@ -20,15 +20,11 @@ decreases-loop area c count number k₀ k = count - k
 
 returns : tie.Need-returns-then-o-number invariant-loop decreases-loop
 returns c =
-    let read = c.before.before in
-    let at = read.before.before in
-    search_here _ _ _ _ _ _ at.loop-k.invariant.1 _ read.loop-k-test.true read.order_at-o.ensures (eq-eqb _ _ c.if-o-number.true)
+    search_here _ _ _ _ _ _ c.loop-k.invariant.1 _ c.loop-k-test.true c.order_at-o.ensures (eq-eqb _ _ c.if-o-number.true)
 
 loop-again : tie.Need-loop-k-preserved invariant-loop decreases-loop
 loop-again c =
-    let read = c.before.before in
-    let at = read.before.before in
-    (omega arith, search_on _ _ _ _ _ _ at.loop-k.invariant.1 _ read.loop-k-test.true read.order_at-o.ensures (ne_eqb _ _ c.if-o-number.false))
+    (omega arith, search_on _ _ _ _ _ _ c.loop-k.invariant.1 _ c.loop-k-test.true c.order_at-o.ensures (ne_eqb _ _ c.if-o-number.false))
 
 pub find_spec : {M : Type 1} → statement M
 find_spec = tie.close (tie.spec

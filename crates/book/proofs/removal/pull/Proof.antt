@@ -15,30 +15,19 @@ invariant-loop area₀ c count account quote kept₀ lots₀ i₀ area kept lots
 abbrev decreases-loop : tie.decreases-loop-i
 decreases-loop area₀ c count account quote kept₀ lots₀ i₀ area kept lots i = count - i
 
--- back to the loop's head
-abbrev Head : tie.After-clear invariant-loop decreases-loop → tie.At-loop-i invariant-loop decreases-loop
-Head c = c.before.before.before
-
 loop-again : tie.Need-loop-i-preserved-then-is_pulled invariant-loop decreases-loop
 loop-again c =
-    let read = c.before.before.before in
-    let at = read.before.before.before in
-    pull_out _ _ _ _ at.before.requires.1 _ _ _ _ at.loop.invariant _ read.loop-test.true read.order_at-o.ensures
+    pull_out _ _ _ _ c.requires.1 _ _ _ _ c.loop-i.invariant _ c.loop-i-test.true c.order_at-o.ensures
     _ c.wide64-lots.ensures (omega arith) (sym c.is_pulled.ensures ∙ c.if-is_pulled.true)
 
 loop-again-2 : tie.Need-loop-i-preserved invariant-loop decreases-loop
 loop-again-2 c =
-    let put = c.before.before in
-    let read = put.before.before.before.before in
-    let at = read.before.before.before in
-    pull_past _ _ _ _ at.before.requires.1 _ _ _ _ at.loop.invariant _ read.loop-test.true read.order_at-o.ensures
-    _ _ (sym put.is_pulled.ensures ∙ put.if-is_pulled.false) refl put.put.ensures
+    pull_past _ _ _ _ c.requires.1 _ _ _ _ c.loop-i.invariant _ c.loop-i-test.true c.order_at-o.ensures
+    _ _ (sym c.is_pulled.ensures ∙ c.if-is_pulled.false) refl c.put.ensures
 
 returns : tie.Need-returns invariant-loop decreases-loop
 returns c =
-    let cleared = c.before.before in
-    let at = cleared.before.before.before in
-    pull_end _ _ _ _ at.requires.1 _ _ _ _ at.loop-i.invariant _ _ _ cleared.loop-i-test.false refl refl cleared.clear.ensures
+    pull_end _ _ _ _ c.requires.1 _ _ _ _ c.loop-i.invariant _ _ _ c.loop-i-test.false refl refl c.clear.ensures
 
 pub pull_spec : {M : Type 1} → statement M
 pull_spec = tie.close (tie.spec

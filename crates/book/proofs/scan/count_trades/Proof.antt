@@ -1,5 +1,7 @@
 -- `book::scan::count_trades` meets its contract. The invariant: i trades so far, and those of the lots left from order i on, are
 -- the answer. Assumes nothing.
+use Rattle.std.proofs.Common.{ap}
+use Rattle.std.specs.Prelude.{not}
 use mathlib.Core.Path.{◌≡◌}
 use Prim.Native.Nat.{◌+◌, ◌-◌, ◌≤◌}
 use native.Mathlib.Nat.{zero-add}
@@ -23,18 +25,15 @@ decreases-loop area c count t lots condition left₀ i₀ left i = count - i
 
 returns-2 : tie.Need-returns-then-not-meets invariant-loop decreases-loop
 returns-2 c =
-    let read = c.before.before in
-    let at = read.before.before.before in
-    tally_stop (count_trades _ _) _ _ _ _ _ _ at.loop-i.invariant.1 _ read.loop-i-test.true read.order_at-o.ensures
-    (λ os. count_unmet _ _ _ os (test_failed _ _ c.meets.ensures c.if-not-meets.true))
+    tally_stop (count_trades _ _) _ _ _ _ _ _ c.loop-i.invariant.1 _ c.loop-i-test.true c.order_at-o.ensures
+    (λ os. count_unmet _ _ _ os (test_failed _ _ c.meets.ensures (ap not c.if-not-meets.true)))
 
 loop-again : tie.Need-loop-i-preserved invariant-loop decreases-loop
 loop-again c =
-    let read = c.before.before.before in
-    let at = read.before.before.before in (
+    (
       omega arith,
-      tally_on (count_trades _ _) _ _ _ _ _ _ at.loop-i.invariant.1 _ read.loop-i-test.true read.order_at-o.ensures
-          (count_trades _ _) 1 (trades_on _ _ _ _ read.if-left-eq0.false c.smaller-size.ensures (test_passed _ _ c.meets.ensures c.if-not-meets.false)),
+      tally_on (count_trades _ _) _ _ _ _ _ _ c.loop-i.invariant.1 _ c.loop-i-test.true c.order_at-o.ensures
+          (count_trades _ _) 1 (trades_on _ _ _ _ c.if-left-eq0.false c.smaller-size.ensures (test_passed _ _ c.meets.ensures (ap not c.if-not-meets.false))),
     )
 
 pub count_trades_spec : {M : Type 1} → statement M

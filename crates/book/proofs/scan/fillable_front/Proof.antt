@@ -1,5 +1,7 @@
 -- `book::scan::fillable_front` meets its contract. The invariant: the lots so far, and those from order i on, are the answer; and no
 -- order adds more than its word holds, so the sum of 64 fits. Assumes nothing.
+use Rattle.std.proofs.Common.{ap}
+use Rattle.std.specs.Prelude.{not}
 use mathlib.Core.Path.{◌≡◌}
 use Prim.Native.Nat.{◌+◌, ◌-◌, ◌*◌, ◌≤◌}
 use native.Mathlib.Nat.{zero-add}
@@ -23,20 +25,17 @@ decreases-loop area c count t condition lots₀ i₀ lots i = count - i
 
 returns : tie.Need-returns-then-not-meets invariant-loop decreases-loop
 returns c =
-    let read = c.before.before in
-    let at = read.before.before in
-    tally_stop (fillable_front _) _ _ _ _ _ _ at.loop-i.invariant.1.1 _ read.loop-i-test.true read.order_at-o.ensures
-    (λ os. front_unmet _ _ os (test_failed _ _ c.meets.ensures c.if-not-meets.true))
+    tally_stop (fillable_front _) _ _ _ _ _ _ c.loop-i.invariant.1.1 _ c.loop-i-test.true c.order_at-o.ensures
+    (λ os. front_unmet _ _ os (test_failed _ _ c.meets.ensures (ap not c.if-not-meets.true)))
 
 loop-again : tie.Need-loop-i-preserved invariant-loop decreases-loop
 loop-again c =
-    let read = c.before.before.before in
-    let at = read.before.before in (
+    (
       omega arith,
       (
         omega arith,
-        tally_on (fillable_front _) _ _ _ _ _ _ at.loop-i.invariant.1.1 _ read.loop-i-test.true
-            read.order_at-o.ensures (fillable_front _) _ (fillable_on _ _ _ c.wide64-lots.ensures (test_passed _ _ c.meets.ensures c.if-not-meets.false)),
+        tally_on (fillable_front _) _ _ _ _ _ _ c.loop-i.invariant.1.1 _ c.loop-i-test.true
+            c.order_at-o.ensures (fillable_front _) _ (fillable_on _ _ _ c.wide64-lots.ensures (test_passed _ _ c.meets.ensures (ap not c.if-not-meets.false))),
       ),
     )
 

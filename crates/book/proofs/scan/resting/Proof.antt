@@ -25,22 +25,19 @@ few c = resting_within _ _ _ _ c.lots_of-lots.ensures
 
 loop-again : tie.Need-loop-i-preserved-then-word_at-account invariant-loop decreases-loop
 loop-again c =
-    let read = c.before in
-    let at = read.before.before.before in (
+    (
       omega arith,
       (
-        omega (arith, few c, read.order_at-o.type-inv),
-        tally_on (resting _ _) _ _ _ _ _ _ at.loop-i.invariant.1.1 _ at.loop-i-test.true
-            read.order_at-o.ensures (resting _ _) _ (resting_on _ _ _ _ c.lots_of-lots.ensures),
+        omega (arith, few c, c.order_at-o.type_inv),
+        tally_on (resting _ _) _ _ _ _ _ _ c.loop-i.invariant.1.1 _ c.loop-i-test.true
+            c.order_at-o.ensures (resting _ _) _ (resting_on _ _ _ _ c.lots_of-lots.ensures),
       ),
     )
 
 loop-again-2 : tie.Need-loop-i-preserved invariant-loop decreases-loop
 loop-again-2 c =
-    let word = c.before in
-    let at = word.before in
-    let so = tally_on (resting _ _) _ _ _ _ _ _ at.loop-i.invariant.1.1 _ at.loop-i-test.true refl (resting _ _) 0
-    (resting_on _ _ _ _ (other_account _ _ _ (λ e. c.if-word_at-account.false (word.word_at.ensures ∙ e)))) in
+    let so = tally_on (resting _ _) _ _ _ _ _ _ c.loop-i.invariant.1.1 _ c.loop-i-test.true refl (resting _ _) 0
+    (resting_on _ _ _ _ (other_account _ _ _ (λ e. c.if-word_at-account.false (c.word_at.ensures ∙ e)))) in
     (omega arith, (omega arith, omega (arith, so)))
 
 pub resting_spec : {M : Type 1} → statement M

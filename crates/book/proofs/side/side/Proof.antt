@@ -7,37 +7,31 @@ use Rattle.book.proofs.Sides.{no_contract_lem, unlisted, no_place, too_many, too
 use Rattle.book.proofs.side.side.Statement.{statement}
 use Rattle.book.proofs.side.side.Tie as tie
 
--- back to the test `contract == 0`
-abbrev Past-contract : tie.Else-count-gt-MAX_RESTING → tie.Else-contract-eq0
-Past-contract c = c.before.before.before
-
 -- the area that was picked
 area-is : (c : tie.Joined-sell) → c.if-sell.area.now ≡ pick c.args.sell c.args.sells.now c.args.buys.now
-area-is c = ⊎_elim (λ w. rw (w.0.taken, w.1)) (λ w. rw (w.0.left, w.1)) c.if-sell.branch
+area-is c = let w = c.if-sell in let b = c.if-sell.branch in ?
 
 returns-4 : tie.Need-returns-then-count-gt-MAX_RESTING
-returns-4 c = too_many _ _ _ _ _ _ c.if2.false c.if3.false c.if4.false c.if5.true
+returns-4 c = too_many _ _ _ _ _ _ c.if-contract-eq0.false c.if-contract-contracts.false c.if-contract-gt-MAX_CONTRACTS.false c.if-count-gt-MAX_RESTING.true
 
 returns-5 : tie.Need-returns-then-e-area
 returns-5 c =
-    let past-contract = Past-contract c.before.before in
-    too_short _ _ _ _ _ _ past-contract.if-contract-eq0.false c.if3.false c.if4.false
-    c.if5.false _ (area-is past-contract.before) c.if6.true
+    too_short _ _ _ _ _ _ c.if-contract-eq0.false c.if-contract-contracts.false c.if-contract-gt-MAX_CONTRACTS.false
+    c.if-count-gt-MAX_RESTING.false _ (area-is c.before.before.before.before.before) c.if-e-area.true
 
 returns-6 : tie.Need-returns
 returns-6 c =
-    let past-contract = Past-contract c.before.before in
-    whole_queue _ _ _ _ _ _ past-contract.if-contract-eq0.false c.if-contract-contracts.false c.if-contract-gt-MAX_CONTRACTS.false
-    c.if-count-gt-MAX_RESTING.false _ (area-is past-contract.before) c.if-e-area.false
+    whole_queue _ _ _ _ _ _ c.if-contract-eq0.false c.if-contract-contracts.false c.if-contract-gt-MAX_CONTRACTS.false
+    c.if-count-gt-MAX_RESTING.false _ (area-is c.before.before.before.before.before.before) c.if-e-area.false
 
 pub side_spec : {M : Type 1} → statement M
 side_spec = tie.close (tie.spec
     (λ c. search rules)  -- slice_bounds-result-end
-    (λ c. no_contract_lem _ _ _ _ _ _ c.if2.true)  -- returns-then-contract-eq0
+    (λ c. no_contract_lem _ _ _ _ _ _ c.if-contract-eq0.true)  -- returns-then-contract-eq0
     (λ c. search rules)  -- slice_bounds-result-end-then-contract-contracts
-    (λ c. unlisted _ _ _ _ _ _ c.if2.false c.if3.true)  -- returns-then-contract-contracts
+    (λ c. unlisted _ _ _ _ _ _ c.if-contract-eq0.false c.if-contract-contracts.true)  -- returns-then-contract-contracts
     (λ c. search rules)  -- slice_bounds-result-end-then-contract-gt-MAX_CONTRACTS
-    (λ c. no_place _ _ _ _ _ _ c.if2.false c.if3.false c.if4.true)  -- returns-then-contract-gt-MAX_CONTRACTS
+    (λ c. no_place _ _ _ _ _ _ c.if-contract-eq0.false c.if-contract-contracts.false c.if-contract-gt-MAX_CONTRACTS.true)  -- returns-then-contract-gt-MAX_CONTRACTS
     (λ c. search rules)  -- slice_bounds-result-end-then-count-gt-MAX_RESTING
     returns-4
     (λ c. search rules)  -- overflow_sub-a
