@@ -2,7 +2,7 @@
 -- if its contracts, makers' marks, holdings and balances are in range. Assumes nothing.
 use lib.IntN.{nat_abs}
 use Rattle.laws.specs.Logic.{true, false, [], ◌≡◌, refl, sym, ap, ◌∙◌}
-use Rattle.laws.specs.Numbers.{ℕ, zero, suc, ◌+◌, ◌*◌, ◌<◌, ◌≤◌, arith, get_or, List·getD-map}
+use Rattle.laws.specs.Numbers.{ℕ, zero, suc, ◌+◌, ◌*◌, ◌<◌, ◌≤◌, arith, get_or, List·getD-map, length}
 use Rattle.laws.specs.Choice.{all_of, for_either}
 use Rattle.laws.specs.Sums.{sum_of}
 use Rattle.laws.specs.Tabulate.{tabulate, length_tabulate, get_d_tabulate}
@@ -12,7 +12,7 @@ use Rattle.rules.specs.Holdings.{book_trades, never_below_zero, start_holding, s
 use Rattle.rules.specs.WellFormed.{contract_in_range, sorted, uncrossed, number_of, stamp_of, used_once, listed, all_listed}
 use Rattle.rules.specs.declared.{Account.Account, Contract.Contract, Holding.Holding, Order.Order}
 use Rattle.theory.proofs.Holdings.{same_refl}
-use Rattle.invariants.proofs.Clauses.{ListingOk, HoldingOk, WellFormed, Counted}
+use Rattle.invariants.proofs.Clauses.{ListingOk, HoldingOk, WellFormed, Counted, MarksOk}
 use Rattle.invariants.proofs.Marks.{no_marks}
 
 abbrev pub quiet : Contract → Listing

@@ -9,7 +9,7 @@ use Rattle.book.proofs.side.side.Tie as tie
 
 -- the area that was picked
 area-is : (c : tie.Joined-sell) → c.if-sell.area.now ≡ pick c.args.sell c.args.sells.now c.args.buys.now
-area-is c = let w = c.if-sell in let b = c.if-sell.branch in ?
+area-is c = ⊎_elim (λ w. rw (w.if-sell.true, w.area-is)) (λ w. rw (w.if-sell.false, w.area-is)) c.if-sell.branch-raw
 
 returns-4 : tie.Need-returns-then-count-gt-MAX_RESTING
 returns-4 c = too_many _ _ _ _ _ _ c.if-contract-eq0.false c.if-contract-contracts.false c.if-contract-gt-MAX_CONTRACTS.false c.if-count-gt-MAX_RESTING.true
