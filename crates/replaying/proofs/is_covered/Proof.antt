@@ -6,22 +6,22 @@ use Rattle.rules.specs.Holdings.{leg_covered}
 use Rattle.replaying.proofs.is_covered.Statement.{statement}
 use Rattle.replaying.proofs.is_covered.Tie as tie
 
-returns : tie.Need-returns
+returns : tie.Need-returns-then-close-eq0
 unfolding leg_covered holding_at account_at
-returns c = rw (eq-eqb _ _ c.if1.true)
+returns c = rw (eq-eqb _ _ c.if-close-eq0.true)
 
-returns-2 : tie.Need-returns-2
+returns-2 : tie.Need-returns-then-sell
 unfolding leg_covered holding_at account_at
-returns-2 c = rw (ne_eqb _ _ c.before.before.before.if1.false, c.before.if2.true)
+returns-2 c = rw (ne_eqb _ _ c.if-close-eq0.false, c.if-sell.true)
 
-returns-3 : tie.Need-returns-3
+returns-3 : tie.Need-returns
 unfolding leg_covered holding_at account_at
-returns-3 c = rw (ne_eqb _ _ c.before.before.before.if1.false, c.before.if2.false)
+returns-3 c = rw (ne_eqb _ _ c.if-close-eq0.false, c.if-sell.false)
 
-pub is-covered-spec : {M : Type 1} → statement M
-is-covered-spec = tie.close (tie.spec
+pub is_covered_spec : {M : Type 1} → statement M
+is_covered_spec = tie.close (tie.spec
     returns
-    (λ c. search rules)  -- mul-h
-    (λ c. search rules)  -- element-copy-out-h
+    (λ c. search rules)  -- offset_bounds-a-c
+    (λ c. search rules)  -- bounds-a-c
     returns-2
     returns-3)

@@ -1,5 +1,7 @@
 -- `replaying::replay` meets its contract. What the loop keeps is `Going`: what the trades from i on make of the holdings decides the
 -- answer. The measure is the number of trades not yet replayed. Assumes nothing.
+use Rattle.std.proofs.Common.{ap}
+use Rattle.std.specs.Prelude.{not}
 use Prim.Native.Nat.{◌-◌, ◌<◌}
 use native.Mathlib.Omega.{arith}
 use borrow.Author.Rules.{rules}
@@ -11,120 +13,91 @@ use Rattle.replaying.proofs.Turns.{Bought, Going, all_covered, buyer_booked, buy
 use Rattle.replaying.proofs.replay.Statement.{statement}
 use Rattle.replaying.proofs.replay.Tie as tie
 
-abbrev invariant-loop : tie.invariant-loop
+abbrev invariant-loop : tie.invariant-loop-i
 invariant-loop accounts contracts accountcount area count held₀ i₀ held i = Going held₀ contracts accountcount area count held i
 
-abbrev decreases-loop : tie.decreases-loop
+abbrev decreases-loop : tie.decreases-loop-i
 decreases-loop accounts contracts accountcount area count held₀ i₀ held i = count - i
 
--- back to the start
-abbrev Begun : tie.After-wide invariant-loop decreases-loop → tie.Start invariant-loop decreases-loop
-Begun c = c.before.before.before.before.before
-
--- back to the call of `trade_at_lem`
-abbrev Trade-at : tie.After-is-covered invariant-loop decreases-loop → tie.After-trade-at invariant-loop decreases-loop
-Trade-at c = c.before.before.before.before
-
--- back to the call of `wide`
-abbrev Wide : tie.After-book-leg invariant-loop decreases-loop → tie.After-wide invariant-loop decreases-loop
-Wide c = c.before.before.before.before.before.before
-
--- back to the call whose answer is `buyer`
-abbrev Buyer : tie.After-is-covered invariant-loop decreases-loop → tie.After-wide2 invariant-loop decreases-loop
-Buyer c = c.before.before
-
--- back to the call of `book-leg`
-abbrev Book-leg : tie.After-book-leg-arg2 invariant-loop decreases-loop → tie.After-book-leg invariant-loop decreases-loop
-Book-leg c = c.before.before.before.before.before
-
--- back to the call whose answer is `seller`
-abbrev Seller : tie.After-is-covered2 invariant-loop decreases-loop → tie.After-wide3 invariant-loop decreases-loop
-Seller c = c.before.before
-
 -- the trade read is of contracts and accounts in use
-trade : (c : tie.After-trade-at invariant-loop decreases-loop) → Booked c.before.before.before.before.args.contracts c.before.before.before.before.args.accountcount c.trade_at_lem.result
-trade c = trade_read _ _ _ c.before.loop-test.true c.trade_at_lem.ensures (c.before.before.before.before.requires.each _ c.before.loop-test.true)
+trade : (c : tie.After-trade_at-t invariant-loop decreases-loop) → Booked c.args.contracts c.args.accountcount c.trade_at-t.result
+trade c = trade_read _ _ _ c.loop-i-test.true c.trade_at-t.ensures (c.requires.each _ c.loop-i-test.true)
 
-contract : (c : tie.After-wide invariant-loop decreases-loop) → c.wide.result < 4
-contract c = omega (arith, c.wide.ensures, (trade c.before).contract, (Begun c).requires.few)
+contract : (c : tie.After-wide-c invariant-loop decreases-loop) → c.wide-c.result < 4
+contract c = omega (arith, c.wide-c.ensures, (trade c.before).contract, c.requires.few)
 
-buyer : (c : tie.After-wide2 invariant-loop decreases-loop) → c.wide2.result < 32
-buyer c = omega (arith, c.wide2.ensures, (trade c.before.before).buyer, (Begun c.before).pre.fit)
+buyer : (c : tie.After-wide-buyer invariant-loop decreases-loop) → c.wide-buyer.result < 32
+buyer c = omega (arith, c.wide-buyer.ensures, (trade c.before.before).buyer, c.requires.fit)
 
-returns : tie.Need-returns invariant-loop decreases-loop
+returns : tie.Need-returns-then-not-is_covered invariant-loop decreases-loop
 returns c =
-    let trade_at_lem = Trade-at c.before in
-    buyer_short trade_at_lem.before.before.loop.inv trade_at_lem.before.loop-test.taken trade_at_lem.trade_at_lem.ensures (trade trade_at_lem)
-    c.before.before.before.wide2.ensures c.before.before.before.before.wide.ensures (refused c.before.is-covered.ensures c.if1.true)
+    buyer_short c.loop-i.invariant c.loop-i-test.true c.trade_at-t.ensures (trade c.before.before.before.before.before)
+    c.wide-buyer.ensures c.wide-c.ensures (refused c.is_covered.ensures (ap not c.if-not-is_covered.true))
 
-book-leg-requires : tie.Need-book-leg-requires invariant-loop decreases-loop
+book-leg-requires : tie.Need-book_leg-requires invariant-loop decreases-loop
 book-leg-requires c κs =
-    let buyer = Buyer c.before.before in
-    let trade_at_lem = Trade-at c.before.before in (
-      contract buyer.before,
-      (trade trade_at_lem).lots,
-      buyer_fits trade_at_lem.before.before.loop.inv trade_at_lem.before.loop-test.taken
-          trade_at_lem.trade_at_lem.ensures (trade trade_at_lem) c.before.before.before.before.wide2.ensures buyer.before.wide.ensures,
+    (
+      contract c.before.before.before.before.before,
+      (trade c.before.before.before.before.before.before).lots,
+      buyer_fits c.loop-i.invariant c.loop-i-test.true
+          c.trade_at-t.ensures (trade c.before.before.before.before.before.before) c.wide-buyer.ensures c.wide-c.ensures,
     )
 
-seller : (c : tie.After-wide3 invariant-loop decreases-loop) → c.wide3.result < 32
-seller c = omega (arith, c.wide3.ensures, (trade (Wide c.before).before).seller, (Begun (Wide c.before)).pre.fit)
+seller : (c : tie.After-wide-seller invariant-loop decreases-loop) → c.wide-seller.result < 32
+seller c = omega (arith, c.wide-seller.ensures, (trade c.before.before.before.before.before.before.before.before).seller, c.requires.fit)
 
 -- between the two legs
-bought : (c : tie.After-book-leg invariant-loop decreases-loop)
-    → let a = (Begun (Wide c)).args in
-    Bought a.accounts a.contracts a.accountcount a.area.now a.count (set (Wide c).before.before.before.loop.held
-    (Buyer c.before.before.before).wide2.result c.book-leg.result) (Wide c).before.before.before.loop.i (Wide c).before.trade_at_lem.result
+bought : (c : tie.After-book_leg invariant-loop decreases-loop)
+    → let a = c.args in
+    Bought a.accounts a.contracts a.accountcount a.area.now a.count (set c.loop-i.held
+    c.wide-buyer.result c.book_leg.result) c.loop-i.i c.trade_at-t.result
 bought c =
-    let wide = Wide c in
-    let buyer = Buyer c.before.before.before in
-    buyer_booked wide.before.before.before.loop.inv wide.before.before.loop-test.taken wide.before.trade_at_lem.ensures
-    (trade wide.before) buyer.wide2.ensures wide.wide.ensures
-    (passed c.before.before.before.is-covered.ensures c.before.before.if1.false) c.book-leg.ensures
+    buyer_booked c.loop-i.invariant c.loop-i-test.true c.trade_at-t.ensures
+    (trade c.before.before.before.before.before.before.before) c.wide-buyer.ensures c.wide-c.ensures
+    (passed c.is_covered.ensures (ap not c.if-not-is_covered.false)) c.book_leg.ensures
 
-returns-2 : tie.Need-returns-2 invariant-loop decreases-loop
+returns-2 : tie.Need-returns-then-not-is_covered-2 invariant-loop decreases-loop
 returns-2 c =
-    seller_short (bought c.before.before.before.before) c.before.before.before.wide3.ensures (Wide c.before.before.before.before).wide.ensures
-    (refused c.before.is-covered2.ensures c.if2.true)
+    seller_short (bought c.before.before.before.before) c.wide-seller.ensures c.wide-c.ensures
+    (refused c.is_covered-in-loop-i.ensures (ap not c.if-not-is_covered-2.true))
 
-book-leg-requires-2 : tie.Need-book-leg-requires-2 invariant-loop decreases-loop
+book-leg-requires-2 : tie.Need-book_leg-requires-in-loop-i invariant-loop decreases-loop
 book-leg-requires-2 c κs =
-    let wide = Wide (Book-leg c) in
-    (contract wide, (trade wide.before).lots, seller_fits (bought (Book-leg c)) c.before.before.before.before.wide3.ensures wide.wide.ensures)
+    (contract c.before.before.before.before.before.before.before.before.before.before.before, (trade c.before.before.before.before.before.before.before.before.before.before.before.before).lots, seller_fits (bought c.before.before.before.before.before) c.wide-seller.ensures c.wide-c.ensures)
 
-loop-again : tie.Need-loop-preserved invariant-loop decreases-loop
+loop-again : tie.Need-loop-i-preserved invariant-loop decreases-loop
 loop-again c =
-    seller_booked (bought (Book-leg c.before)) (Seller c.before.before.before).wide3.ensures (Wide (Book-leg c.before)).wide.ensures
-    (passed c.before.before.before.is-covered2.ensures c.before.before.if2.false) c.book-leg2.ensures
+    seller_booked (bought c.before.before.before.before.before.before) c.wide-seller.ensures c.wide-c.ensures
+    (passed c.is_covered-in-loop-i.ensures (ap not c.if-not-is_covered-2.false)) c.book_leg-in-loop-i.ensures
 
-pub replay-spec : {M : Type 1} → statement M
-replay-spec = tie.close (tie.spec
+pub replay_spec : {M : Type 1} → statement M
+replay_spec = tie.close (tie.spec
     invariant-loop
     decreases-loop
-    (λ c. going_first c.before.requires.fit c.before.requires.trades (search (rules, unmapped)) c.before.requires.held)  -- loop-holds
-    (λ c κs. omega (arith, c.before.before.before.requires.room, c.loop-test.true))  -- trade-at-requires
-    (λ c κs. search rules)  -- wide-requires
-    (λ c κs. search rules)  -- wide-requires-2
-    (λ c. omega (arith, buyer c))  -- mul-is-covered
-    (λ c. buyer c)  -- array-copy-out-is-covered
-    (λ c κs. contract c.before.before)  -- is-covered-requires
+    (λ c. going_first c.requires.fit c.requires.trades (search (rules, unmapped)) c.requires.held)  -- loop-holds
+    (λ c κs. omega (arith, c.requires.room, c.loop-i-test.true))  -- trade_at-t-requires
+    (λ c κs. search rules)  -- wide-c-requires
+    (λ c κs. search rules)  -- wide-buyer-requires
+    (λ c. omega (arith, buyer c))  -- offset_bounds-held-buyer
+    (λ c. buyer c)  -- bounds-held-buyer
+    (λ c κs. contract c.before.before)  -- is_covered-requires
     returns
-    (λ c. omega (arith, buyer c.before.before.before))  -- mul-book-leg
-    (λ c. buyer c.before.before.before)  -- array-copy-out-book-leg
+    (λ c. omega (arith, buyer c.before.before.before))  -- offset_bounds-held-buyer-in-loop-i
+    (λ c. buyer c.before.before.before)  -- bounds-held-buyer-in-loop-i
     book-leg-requires
-    (λ c. omega (arith, buyer (Buyer c.before.before.before)))  -- mul-held
-    (λ c. buyer (Buyer c.before.before.before))  -- array-set-from-held
-    (λ c κs. search rules)  -- wide-requires-3
-    (λ c. omega (arith, seller c))  -- mul-is-covered-2
-    (λ c. seller c)  -- array-copy-out-is-covered-2
-    (λ c κs. contract (Wide c.before.before))  -- is-covered-requires-2
+    (λ c. omega (arith, buyer c.before.before.before.before.before))  -- offset_bounds-held-buyer-in-loop-i-2
+    (λ c. buyer c.before.before.before.before.before)  -- bounds-held-buyer-in-loop-i-2
+    (λ c κs. search rules)  -- wide-seller-requires
+    (λ c. omega (arith, seller c))  -- offset_bounds-held-seller
+    (λ c. seller c)  -- bounds-held-seller
+    (λ c κs. contract c.before.before.before.before.before.before.before.before)  -- is_covered-requires-in-loop-i
     returns-2
-    (λ c. omega (arith, seller c.before.before.before))  -- mul-book-leg-2
-    (λ c. seller c.before.before.before)  -- array-copy-out-book-leg-2
+    (λ c. omega (arith, seller c.before.before.before))  -- offset_bounds-held-seller-in-loop-i
+    (λ c. seller c.before.before.before)  -- bounds-held-seller-in-loop-i
     book-leg-requires-2
-    (λ c. omega (arith, seller (Seller c.before.before.before)))  -- mul-held-2
-    (λ c. seller (Seller c.before.before.before))  -- array-set-from-held-2
-    (λ c. omega (arith, (Wide (Book-leg c.before)).before.before.loop-test.taken, (Begun (Wide (Book-leg c.before))).pre.trades))  -- add-i
-    (λ c. omega (arith, (Wide (Book-leg c.before)).before.before.loop-test.taken))  -- loop-less
+    (λ c. omega (arith, seller c.before.before.before.before.before))  -- offset_bounds-held-seller-in-loop-i-2
+    (λ c. seller c.before.before.before.before.before)  -- bounds-held-seller-in-loop-i-2
+    (λ c. omega (arith, c.loop-i-test.true, c.requires.trades))  -- overflow_add-i
+    (λ c. omega (arith, c.loop-i-test.true))  -- loop-less
     loop-again
-    (λ c. all_covered c.before.loop.invariant c.loop-test.false))  -- returns-3
+    (λ c. all_covered c.loop-i.invariant c.loop-i-test.false))  -- returns-3

@@ -5,29 +5,23 @@ use Rattle.matching.proofs.Entries.{none_rests, rest_room, some_rests}
 use Rattle.matching.proofs.entry.rest.Statement.{statement}
 use Rattle.matching.proofs.entry.rest.Tie as tie
 
--- back to the start
-abbrev Begun : tie.After-insert → tie.Start
-Begun c = c.before.before.before.before
-
 insert-requires : tie.Need-insert-requires
 insert-requires c κs =
-    let start = c.before.before.before in
-    rest_room start.args.t start.args.price start.args.lots start.args.own.now start.args.c start.args.count c.before.if1.false start.requires
+    rest_room c.args.t c.args.price c.args.lots c.args.own.now c.args.c c.args.count c.if-lots-eq0.false c.requires
 
-add-result : tie.Need-overflow-add-result
+add-result : tie.Need-overflow_add-result
 add-result c =
-    let start = Begun c.before.before in
     omega (
       arith,
-      start.good,
-      rest_room start.args.t start.args.price start.args.lots start.args.own.now start.args.c
-          start.args.count c.before.before.before.before.if1.false start.pre,
+      c.well_formed,
+      rest_room c.args.t c.args.price c.args.lots c.args.own.now c.args.c
+          c.args.count c.if-lots-eq0.false c.requires,
     )
 
-pub rest-spec : {M : Type 1} → statement M
-rest-spec = tie.close (tie.spec
-    (λ c. none_rests _ _ _ _ _ _ c.if1.true c.before.before.requires)  -- returns
+pub rest_spec : {M : Type 1} → statement M
+rest_spec = tie.close (tie.spec
+    (λ c. none_rests _ _ _ _ _ _ c.if-lots-eq0.true c.requires)  -- returns-then-lots-eq0
     insert-requires
     add-result
-    (λ c. search rules)  -- same-length
-    (λ c. some_rests _ _ _ _ _ _ c.before.before.before.before.if1.false c.before.before.insert.ensures))  -- returns-2
+    (λ c. search rules)  -- shape_of-own
+    (λ c. some_rests _ _ _ _ _ _ c.if-lots-eq0.false c.insert.ensures))  -- returns-2
