@@ -1,11 +1,11 @@
 -- WHAT AN ACCOUNT MAY RELY ON: the theorems of specs/Accounts, of one command by the rules, and of the memory that a call or a run of
 -- commands leaves. Assumes nothing.
 use Rattle.laws.specs.Logic.{Bool, true, false, not, false≢true, List, [], ◌∷◌, ◌≡◌, refl, sym, ap, subst, subst⁻¹, ◌∙◌}
-use Rattle.laws.specs.Numbers.{ℕ, ◌+◌, ◌<◌, arith, eqb-true, not-true, eqb}
+use Rattle.laws.specs.Numbers.{ℕ, ◌+◌, ◌<◌, arith, eqb-true, not-true, eqb, ◌≤◌}
 use Rattle.laws.specs.Choice.{pick, all_of, both_true, for_either}
 use Rattle.rules.specs.Command.{Field, unused, holds, account_field, is_settle}
-use Rattle.rules.specs.Condition3.{accounts_of, contracts_of, run}
-use Rattle.rules.specs.Exchange.{Exchange, place_of, resting_closes}
+use Rattle.rules.specs.Condition3.{accounts_of, contracts_of, run, holding_in}
+use Rattle.rules.specs.Exchange.{Exchange, place_of, resting_closes, own, listing_at}
 use Rattle.rules.specs.Answers.{first_of}
 use Rattle.rules.specs.Kinds.{code_of, decide, done, kind_of, last_of, refused, step}
 use Rattle.rules.specs.Memory.{Memory, Declared, exchange_of, respond, step_in, well_formed_memory}

@@ -6,8 +6,8 @@ use Rattle.laws.specs.Numbers.{ℕ, zero, suc, ◌+◌, ◌*◌, ◌<◌, ◌≤
 use Rattle.laws.specs.Choice.{all_of, for_either}
 use Rattle.laws.specs.Sums.{sum_of}
 use Rattle.laws.specs.Tabulate.{tabulate, length_tabulate, get_d_tabulate}
-use Rattle.rules.specs.Bounds.{max_contracts, max_settlements, max_balance, max_day_profit}
-use Rattle.rules.specs.Exchange.{Exchange, Listing, listing_at, account_at, holding_at, no_listing, no_account, no_holding, lots_where, resting}
+use Rattle.rules.specs.Bounds.{max_contracts, max_settlements, max_balance, max_day_profit, max_resting}
+use Rattle.rules.specs.Exchange.{Exchange, Listing, listing_at, account_at, holding_at, no_listing, no_account, no_holding, lots_where, resting, own}
 use Rattle.rules.specs.Holdings.{book_trades, never_below_zero, start_holding, start_account, start_of_day}
 use Rattle.rules.specs.WellFormed.{contract_in_range, sorted, uncrossed, number_of, stamp_of, used_once, listed, all_listed}
 use Rattle.rules.specs.declared.{Account.Account, Contract.Contract, Holding.Holding, Order.Order}

@@ -80,7 +80,7 @@ module _ (x : Exchange) (w : WellFormed x) (q : Offered) (account_there : place_
     buy_passes = order_passes (without_quote x q) (buy_of q) bought (rw gone_accounts account_there) gone_there
 
     pub buy_enters : Enterable (without_quote x q) (without_quote x q).next 1 ((without_quote x q).next + 1) (buy_of q)
-    unfolding half listing_of
+    unfolding half listing_of account_at
     buy_enters = search (rules, gone_keeps, next_given, numbers_left, buy_passes, gone_accounts, none_marked) depth 12
 
     pub buy_keeps : WellFormed (with_buy x q)
