@@ -51,7 +51,7 @@ meeting c =
     record {
       here = omega (arith, inv.within, c.if-filled-count.false);
       order = order_read c.sweep.filled c.order_at-o.ensures c.wide-c.ensures inv.same;
-      some = omega (arith, eqb-false (c.args.lots - c.sweep.done) 0 c.if-left-eq0.false);
+      some = omega (arith, c.if-left-eq0.false);
       met = sym c.is_counterpart.ensures ∙ c.if-not-is_counterpart.false;
       trade = c.trade_with-trade.ensures;
     }
@@ -157,7 +157,7 @@ sweep_spec = tie.close (tie.spec
     (λ c. omega (arith, few c.before.before.before.before.before.before.before.before.before.before))  -- overflow_add-done
     (λ c. search rules)  -- overflow_sub-resting
     set-lots-requires
-    (λ c. omega (arith, (meeting c.before.before.before.before.before.before.before.before.before.before.before).here, c.fits.count))  -- overflow_add-filled
+    (λ c. omega (arith, (meeting c.before.before.before.before.before.before.before.before.before.before.before).here, c.ranges.count))  -- overflow_add-filled
     (λ c. omega (arith, (meeting c.before.before.before.before.before.before.before.before.before.before.before).here))  -- sweep-less
     sweep-again
     (λ c. search rules)  -- shape_of-opposite-then-filled-count
