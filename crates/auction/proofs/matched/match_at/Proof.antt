@@ -24,228 +24,171 @@ abbrev decreases-turns : tie.decreases-turns
 decreases-turns buys₀ bought sells₀ sold area₀ before contract price last c held₀ latest₀ made₀ i₀ j₀ done₀ buys sells area held latest made i j done =
     bought - i + (sold - j)
 
--- back to the test `i == bought`
-abbrev Past-bought : tie.After-order-at invariant-turns decreases-turns → tie.Else1 invariant-turns decreases-turns
-Past-bought c = c.before.before.before
-
--- back to the call of `wide2`
-abbrev Wide2 : tie.After-book-leg2 invariant-turns decreases-turns → tie.After-wide2 invariant-turns decreases-turns
-Wide2 c = c.before.before.before.before.before
-
--- back to the test `size < demand`
-abbrev Met-size : tie.After-slice-known5 invariant-turns decreases-turns → tie.Then4 invariant-turns decreases-turns
-Met-size c = c.before.before.before.before
-
--- back to the test `size < demand`
-abbrev Past-size : tie.After-slice-known6 invariant-turns decreases-turns → tie.Else4 invariant-turns decreases-turns
-Past-size c = c.before.before.before.before.before
-
--- from the loop's head to the start
-abbrev Begun : tie.At-turns invariant-turns decreases-turns → tie.Start invariant-turns decreases-turns
-Begun s = s.before.before.before.before.before
-
 -- both queues have an order left
-buy-there : (c : tie.Else2 invariant-turns decreases-turns) → c.before.before.turns.i < (Begun c.before.before).args.bought
-buy-there c = omega (arith, c.before.before.turns.invariant.buying.within, c.before.if1.false)
+buy-there : (c : tie.Else-j-sold invariant-turns decreases-turns) → c.turns.i < c.args.bought
+buy-there c = omega (arith, c.turns.invariant.buying.within, c.if-i-bought.false)
 
-sell-there : (c : tie.Else2 invariant-turns decreases-turns) → c.before.before.turns.j < (Begun c.before.before).args.sold
-sell-there c = omega (arith, c.before.before.turns.invariant.selling.within, eqb-false c.before.before.turns.j (Begun c.before.before).args.sold c.if2.false)
+sell-there : (c : tie.Else-j-sold invariant-turns decreases-turns) → c.turns.j < c.args.sold
+sell-there c = omega (arith, c.turns.invariant.selling.within, c.if-j-sold.false)
 
-order-at-requires-2 : tie.Need-order-at-requires-2 invariant-turns decreases-turns
+order-at-requires-2 : tie.Need-order_at-s-requires invariant-turns decreases-turns
 order-at-requires-2 c κs =
-    let s = (Past-bought c.before).before.turns.inv.selling in
-    omega (arith, sell-there c.before.before.before, s.room, s.long)
-
--- from a trade back to the two orders read, to where the queues were tested, and to the loop's head
-abbrev Read : tie.After-trade-at invariant-turns decreases-turns → tie.After-order-at2 invariant-turns decreases-turns
-Read c = c.before.before.before
-
-abbrev Tested : tie.After-order-at2 invariant-turns decreases-turns → tie.Else2 invariant-turns decreases-turns
-Tested c = c.before.before.before.before
-
-abbrev Head : tie.After-trade-at invariant-turns decreases-turns → tie.At-turns invariant-turns decreases-turns
-Head c = (Tested (Read c)).before.before
+    let s = c.turns.invariant.selling in
+    omega (arith, sell-there c.before, s.room, s.long)
 
 -- what a turn that trades knows
-meeting : (c : tie.After-trade-at invariant-turns decreases-turns)
-    → let h = Head c in
-    let a = (Begun h).args in
-    Meeting h.turns.buys a.bought h.turns.sells a.sold h.before.wide.result a.price h.turns.i h.turns.j
-    (Read c).before.before.order_at_lem.result (Read c).order-at2.result
+meeting : (c : tie.After-trade_at-trade invariant-turns decreases-turns)
+    → let a = c.args in
+    Meeting c.turns.buys a.bought c.turns.sells a.sold c.wide-c.result a.price c.turns.i c.turns.j
+    c.order_at-b.result c.order_at-s.result
 meeting c =
     record {
-      buy_here = buy-there (Tested (Read c));
-      sell_here = sell-there (Tested (Read c));
-      buy = (Read c).before.before.order_at_lem.ensures;
-      sell = (Read c).order-at2.ensures;
-      met = sym c.before.before.both-reach.ensures ∙ not-false _ c.before.if3.false;
+      buy_here = buy-there c.before.before.before.before.before;
+      sell_here = sell-there c.before.before.before.before.before;
+      buy = c.order_at-b.ensures;
+      sell = c.order_at-s.ensures;
+      met = sym c.both_reach.ensures ∙ c.if-not-both_reach.false;
     }
 
 -- the trade, in the terms of the contract's place
-trade : (c : tie.After-trade-at invariant-turns decreases-turns)
-    → let r = Read c in
-    c.trade_at_lem.result ≡ trade_at (Head c).before.wide.result (Begun (Head c)).args.price (paired r.before.before.order_at_lem.result
-    r.order-at2.result) r.before.before.order_at_lem.result r.order-at2.result
-trade c = trade_here _ _ _ (Head c).before.wide.ensures c.trade_at_lem.ensures
+trade : (c : tie.After-trade_at-trade invariant-turns decreases-turns)
+    → c.trade_at-trade.result ≡ trade_at c.wide-c.result c.args.price (paired c.order_at-b.result
+    c.order_at-s.result) c.order_at-b.result c.order_at-s.result
+trade c = trade_here _ _ _ c.wide-c.ensures c.trade_at-trade.ensures
 
 -- its lots are few, and its accounts are in use
-few : (c : tie.After-trade-at invariant-turns decreases-turns) → c.trade_at_lem.result.lots ≤ 1000
-few c = trade_few (Head c).turns.invariant (meeting c) (trade c)
+few : (c : tie.After-trade_at-trade invariant-turns decreases-turns) → c.trade_at-trade.result.lots ≤ 1000
+few c = trade_few c.turns.invariant (meeting c) (trade c)
 
 -- at most 64 orders rest on a side
-early : (c : tie.After-trade-at invariant-turns decreases-turns) → ((Head c).turns.i < max_resting) × ((Head c).turns.j < max_resting)
+early : (c : tie.After-trade_at-trade invariant-turns decreases-turns) → (c.turns.i < max_resting) × (c.turns.j < max_resting)
 early c =
     let m = meeting c in
-    let q = (Begun (Head c)).pre.queues in
+    let q = c.requires.queues in
     (omega (arith, m.buy_here, q.few_buys), omega (arith, m.sell_here, q.few_sells))
 
 -- so many lots have been traded at most, this trade's with them
-total : (c : tie.After-trade-at invariant-turns decreases-turns) → (Head c).turns.done + c.trade_at_lem.result.lots ≤ 128000
-total c = omega (arith, few c, (Head c).turns.invariant.some, early c)
+total : (c : tie.After-trade_at-trade invariant-turns decreases-turns) → c.turns.done + c.trade_at-trade.result.lots ≤ 128000
+total c = omega (arith, few c, c.turns.invariant.some, early c)
 
-booking : (c : tie.After-trade-at invariant-turns decreases-turns)
-    → let p = (Head c).turns.invariant.parties in
-    (c.trade_at_lem.result.buyer < p.used) × (c.trade_at_lem.result.seller < p.used)
-booking c = trade_parties (Head c).turns.invariant (meeting c) (trade c)
+booking : (c : tie.After-trade_at-trade invariant-turns decreases-turns)
+    → let p = c.turns.invariant.parties in
+    (c.trade_at-trade.result.buyer < p.used) × (c.trade_at-trade.result.seller < p.used)
+booking c = trade_parties c.turns.invariant (meeting c) (trade c)
 
 -- the contract's place is the trade's
-place : (c : tie.After-trade-at invariant-turns decreases-turns) → c.trade_at_lem.result.contract ≡ (Head c).before.wide.result
-place c = trade_contract (Head c).turns.invariant (meeting c) (trade c)
+place : (c : tie.After-trade_at-trade invariant-turns decreases-turns) → c.trade_at-trade.result.contract ≡ c.wide-c.result
+place c = trade_contract c.turns.invariant (meeting c) (trade c)
 
-listed : (c : tie.After-trade-at invariant-turns decreases-turns) → (Head c).before.wide.result < 4
-listed c = rw (Head c).before.wide.ensures (Begun (Head c)).pre.contract
+listed : (c : tie.After-trade_at-trade invariant-turns decreases-turns) → c.wide-c.result < 4
+listed c = rw c.wide-c.ensures c.requires.contract
 
-buyer : (c : tie.After-wide2 invariant-turns decreases-turns) → c.wide2.result < 32
-buyer c = rw c.wide2.ensures (omega (arith, (booking c.before).0, (Head c.before).turns.inv.parties.few))
+buyer : (c : tie.After-wide-buyer invariant-turns decreases-turns) → c.wide-buyer.result < 32
+buyer c = rw c.wide-buyer.ensures (omega (arith, (booking c.before).0, c.turns.invariant.parties.few))
 
-book-leg-requires : tie.Need-book-leg-requires invariant-turns decreases-turns
+book-leg-requires : tie.Need-book_leg-requires invariant-turns decreases-turns
 book-leg-requires c κs =
-    let w = c.before.before in
-    (listed w, few w, holding_read _ (Head w).turns.invariant.parties.holdings (rw c.before.wide2.ensures (booking w).0) refl (omega (arith, total w)))
+    (listed c.before.before, few c.before.before, holding_read _ c.turns.invariant.parties.holdings (rw c.wide-buyer.ensures (booking c.before.before).0) refl (omega (arith, total c.before.before)))
 
--- from the seller's leg back to the trade
-abbrev Selling : tie.After-wide3 invariant-turns decreases-turns → tie.After-trade-at invariant-turns decreases-turns
-Selling c = c.before.before.before.before
+seller : (c : tie.After-wide-seller invariant-turns decreases-turns) → c.wide-seller.result < 32
+seller c = rw c.wide-seller.ensures (omega (arith, (booking c.before.before.before.before).1, c.turns.invariant.parties.few))
 
-seller : (c : tie.After-wide3 invariant-turns decreases-turns) → c.wide3.result < 32
-seller c = rw c.wide3.ensures (omega (arith, (booking (Selling c)).1, (Head (Selling c)).turns.inv.parties.few))
-
-book-leg-requires-2 : tie.Need-book-leg-requires-2 invariant-turns decreases-turns
+book-leg-requires-2 : tie.Need-book_leg-requires-in-turns invariant-turns decreases-turns
 book-leg-requires-2 c κs =
-    let w = Selling c.before in
-    let h = Head w in
-    let held = h.turns.inv.parties.holdings in
-    let bought = buyer_held h.turns.held w.trade_at_lem.result (sym (place w)) c.before.before.before.before.wide2.ensures
-    c.before.before.book-leg.ensures (place w) (booking w).0 held in
-    (listed w, few w, holding_read _ bought (rw c.before.wide3.ensures (booking w).1) refl (omega (arith, few w, total w)))
+    let held = c.turns.invariant.parties.holdings in
+    let bought = buyer_held c.turns.held c.trade_at-trade.result (sym (place c.before.before.before.before.before)) c.wide-buyer.ensures
+    c.book_leg.ensures (place c.before.before.before.before.before) (booking c.before.before.before.before.before).0 held in
+    (listed c.before.before.before.before.before, few c.before.before.before.before.before, holding_read _ bought (rw c.wide-seller.ensures (booking c.before.before.before.before.before).1) refl (omega (arith, few c.before.before.before.before.before, total c.before.before.before.before.before)))
 
 -- both legs are booked
-legs : (c : tie.After-book-leg2 invariant-turns decreases-turns)
-    → let w = Selling c.before.before in
-    set (set (Head w).turns.held (Wide2 c).wide2.result c.before.before.before.book-leg.result) c.before.before.wide3.result c.book-leg2.result
-    ≡ book_trade (Head w).turns.held w.trade_at_lem.result
+legs : (c : tie.After-book_leg-in-turns invariant-turns decreases-turns)
+    → set (set c.turns.held c.wide-buyer.result c.book_leg.result) c.wide-seller.result c.book_leg-in-turns.result
+    ≡ book_trade c.turns.held c.trade_at-trade.result
 legs c =
-    let w = Selling c.before.before in
-    trade_booked (Head w).turns.held w.trade_at_lem.result (sym (place w)) (Wide2 c).wide2.ensures c.before.before.before.book-leg.ensures
-    c.before.before.wide3.ensures c.book-leg2.ensures
+    trade_booked c.turns.held c.trade_at-trade.result (sym (place c.before.before.before.before.before.before)) c.wide-buyer.ensures c.book_leg.ensures
+    c.wide-seller.ensures c.book_leg-in-turns.ensures
 
 -- the area has room for the trade
-fits : (c : tie.After-trade-at invariant-turns decreases-turns) → trade_stride * (Head c).turns.made + trade_stride ≤ length (Head c).turns.area
-fits c = trade_room (Head c).turns.invariant (meeting c) (trade c) (Head c).before.wide.ensures (Begun (Head c)).pre
+fits : (c : tie.After-trade_at-trade invariant-turns decreases-turns) → trade_stride * c.turns.made + trade_stride ≤ length c.turns.area
+fits c = trade_room c.turns.invariant (meeting c) (trade c) c.wide-c.ensures c.requires
 
--- from after the trade's words are written back to the trade
-abbrev Trading : tie.After-slice-known4 invariant-turns decreases-turns → tie.After-trade-at invariant-turns decreases-turns
-Trading c = Selling c.before.before.before.before.before.before
-
-set-lots-requires : tie.Need-set-lots-requires invariant-turns decreases-turns
+set-lots-requires : tie.Need-set_lots-requires invariant-turns decreases-turns
 set-lots-requires c κs =
-    let w = Trading c.before.before in
-    let s = (Head w).turns.inv.buying in
-    ((meeting w).buy_here, omega (arith, s.room, s.long))
+    let s = c.turns.invariant.buying in
+    ((meeting c.before.before.before.before.before.before.before.before.before.before.before.before).buy_here, omega (arith, s.room, s.long))
 
-turns-again : tie.Need-turns-preserved invariant-turns decreases-turns
+turns-again : tie.Need-turns-preserved-then-size-demand invariant-turns decreases-turns
 turns-again c =
-    let b = (Met-size c).before in
-    let w = Trading b in
-    on_sell (Head w).turns.inv (meeting w) (trade w) (fits w) (legs b.before.before.before.before) b.before.before.put-trade.ensures
-    c.before.before.before.before.if4.true c.before.before.set-lots.auto.0 c.before.before.set-lots.ensures
+    on_sell c.turns.invariant (meeting c.before.before.before.before.before.before.before.before.before.before.before.before.before.before.before) (trade c.before.before.before.before.before.before.before.before.before.before.before.before.before.before.before) (fits c.before.before.before.before.before.before.before.before.before.before.before.before.before.before.before) (legs c.before.before.before.before.before.before.before.before.before) c.put_trade.ensures
+    c.if-size-demand.true c.set_lots.auto.area c.set_lots.ensures
 
-set-lots-requires-2 : tie.Need-set-lots-requires-2 invariant-turns decreases-turns
+set-lots-requires-2 : tie.Need-set_lots-requires-then-size-supply invariant-turns decreases-turns
 set-lots-requires-2 c κs =
-    let w = Trading c.before.before.before in
-    let s = (Head w).turns.inv.selling in
-    ((meeting w).sell_here, omega (arith, s.room, s.long))
+    let s = c.turns.invariant.selling in
+    ((meeting c.before.before.before.before.before.before.before.before.before.before.before.before.before).sell_here, omega (arith, s.room, s.long))
 
-turns-again-2 : tie.Need-turns-preserved-2 invariant-turns decreases-turns
+turns-again-2 : tie.Need-turns-preserved-then-size-supply invariant-turns decreases-turns
 turns-again-2 c =
-    let b = (Past-size c).before in
-    let w = Trading b in
-    on_buy (Head w).turns.inv (meeting w) (trade w) (fits w) (legs b.before.before.before.before) b.before.before.put-trade.ensures
-    (Past-size c).if4.false c.before.before.before.before.if5.true c.before.before.set-lots2.auto.0 c.before.before.set-lots2.ensures
+    on_buy c.turns.invariant (meeting c.before.before.before.before.before.before.before.before.before.before.before.before.before.before.before.before) (trade c.before.before.before.before.before.before.before.before.before.before.before.before.before.before.before.before) (fits c.before.before.before.before.before.before.before.before.before.before.before.before.before.before.before.before) (legs c.before.before.before.before.before.before.before.before.before.before) c.put_trade.ensures
+    c.if-size-demand.false c.if-size-supply.true c.set_lots-then-size-supply.auto.area c.set_lots-then-size-supply.ensures
 
-turns-again-3 : tie.Need-turns-preserved-3 invariant-turns decreases-turns
+turns-again-3 : tie.Need-turns-preserved invariant-turns decreases-turns
 turns-again-3 c =
-    let b = c.before.before in
-    let w = Trading b in
-    on_both (Head w).turns.inv (meeting w) (trade w) (fits w) (legs b.before.before.before.before) b.before.before.put-trade.ensures c.before.if4.false c.if5.false
+    on_both c.turns.invariant (meeting c.before.before.before.before.before.before.before.before.before.before.before.before) (trade c.before.before.before.before.before.before.before.before.before.before.before.before) (fits c.before.before.before.before.before.before.before.before.before.before.before.before) (legs c.before.before.before.before.before.before) c.put_trade.ensures c.if-size-demand.false c.if-size-supply.false
 
-returns : tie.Need-returns invariant-turns decreases-turns
+returns : tie.Need-returns-then-i-bought invariant-turns decreases-turns
 returns c =
-    let h = c.before in
-    ⊎_elim (λ ended. stopped_buys h.turns.invariant h.before.wide.ensures ended.taken)
-    (λ ended. stopped_sells h.turns.invariant h.before.wide.ensures (eqb-true _ _ ended.1.taken)) c.if1.branch
+    ⊎_elim (λ ended. stopped_buys c.turns.invariant c.wide-c.ensures ended.taken)
+    (λ ended. stopped_sells c.turns.invariant c.wide-c.ensures (eqb-true _ _ ended.1.taken)) c.then-i-bought.branch
 
-returns-2 : tie.Need-returns-2 invariant-turns decreases-turns
+returns-2 : tie.Need-returns-then-not-both_reach invariant-turns decreases-turns
 returns-2 c =
-    let r = c.before.before in
-    let t = Tested r in
-    let h = t.before.before in
-    stopped_unmet h.turns.inv h.before.wide.ensures (buy-there t) (sell-there t) r.before.before.order_at_lem.ensures r.order-at2.ensures
-    (sym c.before.both-reach.ensures ∙ not-true _ c.if3.true)
+    stopped_unmet c.turns.invariant c.wide-c.ensures (buy-there c.before.before.before.before) (sell-there c.before.before.before.before) c.order_at-b.ensures c.order_at-s.ensures
+    (sym c.both_reach.ensures ∙ c.if-not-both_reach.true)
 
-pub match-at-spec : {M : Type 1} → statement M
-match-at-spec = tie.close (tie.spec
+pub match_at_spec : {M : Type 1} → statement M
+match_at_spec = tie.close (tie.spec
     invariant-turns
     decreases-turns
-    (λ c κs. search rules)  -- wide-requires
-    (λ c. going _ c.wide.ensures c.before.before.before.before.requires)  -- turns-holds
-    (λ c κs. let s = c.before.before.before.turns.invariant.buying in omega (arith, buy-there c.before, s.room, s.long))  -- order-at-requires
+    (λ c κs. search rules)  -- wide-c-requires
+    (λ c. going _ c.wide-c.ensures c.requires)  -- turns-holds
+    (λ c κs. let s = c.turns.invariant.buying in omega (arith, buy-there c, s.room, s.long))  -- order_at-b-requires
     order-at-requires-2
-    (λ c κs. search rules)  -- both-reach-requires
-    (λ c κs. search rules)  -- trade-at-requires
-    (λ c κs. search rules)  -- wide-requires-2
-    (λ c. omega (arith, buyer c))  -- mul-book-leg
-    (λ c. buyer c)  -- array-copy-out-book-leg
+    (λ c κs. search rules)  -- both_reach-requires
+    (λ c κs. search rules)  -- trade_at-trade-requires
+    (λ c κs. search rules)  -- wide-buyer-requires
+    (λ c. omega (arith, buyer c))  -- offset_bounds-held-buyer
+    (λ c. buyer c)  -- bounds-held-buyer
     book-leg-requires
-    (λ c. omega (arith, buyer c.before.before))  -- mul-held
-    (λ c. buyer c.before.before)  -- array-set-from-held
-    (λ c κs. search rules)  -- wide-requires-3
-    (λ c. omega (arith, seller c))  -- mul-book-leg-2
-    (λ c. seller c)  -- array-copy-out-book-leg-2
+    (λ c. omega (arith, buyer c.before.before))  -- offset_bounds-held-buyer-in-turns
+    (λ c. buyer c.before.before)  -- bounds-held-buyer-in-turns
+    (λ c κs. search rules)  -- wide-seller-requires
+    (λ c. omega (arith, seller c))  -- offset_bounds-held-seller
+    (λ c. seller c)  -- bounds-held-seller
     book-leg-requires-2
-    (λ c. omega (arith, seller c.before.before))  -- mul-held-2
-    (λ c. seller c.before.before)  -- array-set-from-held-2
-    (λ c κs. fits (Selling c.before.before.before))  -- put-trade-requires
-    (λ c. omega (arith, fits (Trading c), (Head (Trading c)).turns.inv.long, (Begun (Head (Trading c))).good))  -- add-made
-    (λ c. omega (arith, total (Trading c)))  -- add-done
-    (λ c. search rules)  -- sub-set-lots
+    (λ c. omega (arith, seller c.before.before))  -- offset_bounds-held-seller-in-turns
+    (λ c. seller c.before.before)  -- bounds-held-seller-in-turns
+    (λ c κs. fits c.before.before.before.before.before.before.before)  -- put_trade-requires
+    (λ c. omega (arith, fits c.before.before.before.before.before.before.before.before.before.before, c.turns.invariant.long, c.well_formed))  -- overflow_add-made
+    (λ c. omega (arith, total c.before.before.before.before.before.before.before.before.before.before))  -- overflow_add-done
+    (λ c. search rules)  -- overflow_sub-demand
     set-lots-requires
-    (λ c. omega (arith, (early (Trading (Met-size c).before)).1))  -- add-j
-    (λ c. omega (arith, (meeting (Trading (Met-size c).before)).sell_here))  -- turns-less
+    (λ c. omega (arith, (early c.before.before.before.before.before.before.before.before.before.before.before.before.before.before.before).1))  -- overflow_add-j
+    (λ c. omega (arith, (meeting c.before.before.before.before.before.before.before.before.before.before.before.before.before.before.before).sell_here))  -- turns-less
     turns-again
-    (λ c. omega (arith, (early (Trading c.before)).0))  -- add-i
-    (λ c. search rules)  -- sub-set-lots-2
+    (λ c. omega (arith, (early c.before.before.before.before.before.before.before.before.before.before.before).0))  -- overflow_add-i
+    (λ c. search rules)  -- overflow_sub-supply
     set-lots-requires-2
-    (λ c. omega (arith, (meeting (Trading (Past-size c).before)).buy_here))  -- turns-less-2
+    (λ c. omega (arith, (meeting c.before.before.before.before.before.before.before.before.before.before.before.before.before.before.before.before).buy_here))  -- turns-less-2
     turns-again-2
-    (λ c. omega (arith, (early (Trading c.before.before)).1))  -- add-j-2
-    (λ c. let m = meeting (Trading c.before.before) in omega (arith, m.buy_here, m.sell_here))  -- turns-less-3
+    (λ c. omega (arith, (early c.before.before.before.before.before.before.before.before.before.before.before.before).1))  -- overflow_add-j-in-turns
+    (λ c. let m = meeting c.before.before.before.before.before.before.before.before.before.before.before.before in omega (arith, m.buy_here, m.sell_here))  -- turns-less-3
     turns-again-3
-    (λ c. c.before.turns.invariant.buying.long)  -- same-length
-    (λ c. c.before.turns.invariant.selling.long)  -- same-length-2
-    (λ c. c.before.turns.invariant.long)  -- same-length-3
+    (λ c. c.turns.invariant.buying.long)  -- shape_of-buys-then-i-bought
+    (λ c. c.turns.invariant.selling.long)  -- shape_of-sells-then-i-bought
+    (λ c. c.turns.invariant.long)  -- shape_of-area-then-i-bought
     returns
-    (λ c. (Tested c.before.before).before.before.turns.inv.buying.long)  -- same-length-4
-    (λ c. (Tested c.before.before).before.before.turns.inv.selling.long)  -- same-length-5
-    (λ c. (Tested c.before.before).before.before.turns.inv.long)  -- same-length-6
+    (λ c. c.turns.invariant.buying.long)  -- shape_of-buys-then-not-both_reach
+    (λ c. c.turns.invariant.selling.long)  -- shape_of-sells-then-not-both_reach
+    (λ c. c.turns.invariant.long)  -- shape_of-area-then-not-both_reach
     returns-2)

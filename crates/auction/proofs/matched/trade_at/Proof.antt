@@ -6,9 +6,9 @@ use Rattle.auction.proofs.matched.trade_at.Tie as tie
 
 returns : tie.Need-returns
 unfolding trade_at
-returns c = rw c.smaller.ensures
+returns c = rw c.smaller-lots.ensures
 
-pub trade-at-spec : {M : Type 1} → statement M
-trade-at-spec = tie.close (tie.spec
-    (λ c κs. search rules)  -- smaller-requires
+pub trade_at_spec : {M : Type 1} → statement M
+trade_at_spec = tie.close (tie.spec
+    (λ c κs. search rules)  -- smaller-lots-requires
     returns)

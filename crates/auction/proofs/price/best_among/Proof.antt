@@ -10,32 +10,27 @@ use Rattle.auction.proofs.Levels.{Searching, search_on, search_end}
 use Rattle.auction.proofs.price.best_among.Statement.{statement}
 use Rattle.auction.proofs.price.best_among.Tie as tie
 
-abbrev invariant-loop : tie.invariant-loop
+abbrev invariant-loop : tie.invariant-loop-i
 invariant-loop area count buys bought sells sold c last chosen₀ i₀ chosen i =
     Searching last (queue_in buys c bought) (queue_in sells c sold) area c count
     (best_from (better last (queue_in buys c bought) (queue_in sells c sold)) chosen₀.price (prices (queue_in area c count))) chosen i
 
-abbrev decreases-loop : tie.decreases-loop
+abbrev decreases-loop : tie.decreases-loop-i
 decreases-loop area count buys bought sells sold c last chosen₀ i₀ chosen i = count - i
 
--- back to the start
-abbrev Begun : tie.After-order-at invariant-loop decreases-loop → tie.Start invariant-loop decreases-loop
-Begun c = c.before.before.before.before.before.before
-
-loop-again : tie.Need-loop-preserved invariant-loop decreases-loop
+loop-again : tie.Need-loop-i-preserved invariant-loop decreases-loop
 loop-again c =
-    let read = c.before.before in
-    search_on read.before.before.loop.invariant read.before.loop-test.true read.order_at_lem.ensures c.before.level-at.ensures c.better-of.ensures
+    search_on c.loop-i.invariant c.loop-i-test.true c.order_at-o.ensures c.level_at-level.ensures c.better_of-chosen.ensures
 
-pub best-among-spec : {M : Type 1} → statement M
-best-among-spec = tie.close (tie.spec
+pub best_among_spec : {M : Type 1} → statement M
+best_among_spec = tie.close (tie.spec
     invariant-loop
     decreases-loop
-    (λ c. record { within = omega arith; is = c.before.before.before.requires.2; so_far = refl })  -- loop-holds
-    (λ c κs. search rules)  -- order-at-requires
-    (λ c κs. (Begun c).requires.0)  -- level-at-requires
-    (λ c κs. search rules)  -- better-of-requires
-    (λ c. omega arith)  -- add-i
+    (λ c. record { within = omega arith; is = c.requires.2; so_far = refl })  -- loop-holds
+    (λ c κs. search rules)  -- order_at-o-requires
+    (λ c κs. c.requires.0)  -- level_at-level-requires
+    (λ c κs. search rules)  -- better_of-chosen-requires
+    (λ c. omega arith)  -- overflow_add-i
     (λ c. omega arith)  -- loop-less
     loop-again
-    (λ c. search_end c.before.loop.invariant c.loop-test.false))  -- returns
+    (λ c. search_end c.loop-i.invariant c.loop-i-test.false))  -- returns

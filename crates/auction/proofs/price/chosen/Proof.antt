@@ -4,17 +4,13 @@ use Rattle.auction.proofs.Levels.{level_own, searched}
 use Rattle.auction.proofs.price.chosen.Statement.{statement}
 use Rattle.auction.proofs.price.chosen.Tie as tie
 
--- back to the start
-abbrev Begun : tie.After-best-among → tie.Start
-Begun c = c.before.before.before.before.before
-
 returns : tie.Need-returns
-returns c = searched _ _ _ c.before.before.before.first-price.ensures c.before.before.level-at.ensures c.before.best-among.ensures c.best-among2.ensures
+returns c = searched _ _ _ c.first_price-price.ensures c.level_at-first.ensures c.best_among.ensures c.best_among.ensures
 
-pub chosen-spec : {M : Type 1} → statement M
-chosen-spec = tie.close (tie.spec
-    (λ c κs. search rules)  -- first-price-requires
-    (λ c κs. search rules)  -- level-at-requires
-    (λ c κs. let ready = c.before.before.before.before.requires in (ready, ready.buys_room, level_own _ _ _ c.level-at.ensures))  -- best-among-requires
-    (λ c κs. let ready = (Begun c).requires in (ready, ready.sells_room, level_own _ _ _ c.best-among.ensures))  -- best-among-requires-2
+pub chosen_spec : {M : Type 1} → statement M
+chosen_spec = tie.close (tie.spec
+    (λ c κs. search rules)  -- first_price-price-requires
+    (λ c κs. search rules)  -- level_at-first-requires
+    (λ c κs. let ready = c.requires in (ready, ready.buys_room, level_own _ _ _ c.level_at-first.ensures))  -- best_among-buy-requires
+    (λ c κs. let ready = c.requires in (ready, ready.sells_room, level_own _ _ _ c.best_among-buy.ensures))  -- best_among-requires
     returns)

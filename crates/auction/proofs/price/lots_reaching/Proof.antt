@@ -14,37 +14,36 @@ use Rattle.auction.proofs.Levels.{reaching_on, reaching_within}
 use Rattle.auction.proofs.price.lots_reaching.Statement.{statement}
 use Rattle.auction.proofs.price.lots_reaching.Tie as tie
 
-abbrev invariant-loop : tie.invariant-loop
+abbrev invariant-loop : tie.invariant-loop-i
 invariant-loop area c count sell price lots₀ i₀ lots i =
     (i ≤ count) × ((lots ≤ 4294967296 * i) × (lots + lots_reaching sell price (drop i (queue_in area c count)) ≡ lots_reaching sell price (queue_in area c count)))
 
-abbrev decreases-loop : tie.decreases-loop
+abbrev decreases-loop : tie.decreases-loop-i
 decreases-loop area c count sell price lots₀ i₀ lots i = count - i
 
-few : (c : tie.After-lots-of invariant-loop decreases-loop) → c.lots-of.result ≤ c.before.order_at_lem.result.lots
-few c = reaching_within _ _ _ _ c.lots-of.ensures
+few : (c : tie.After-lots_of-lots invariant-loop decreases-loop) → c.lots_of-lots.result ≤ c.order_at-o.result.lots
+few c = reaching_within _ _ _ _ c.lots_of-lots.ensures
 
-loop-again : tie.Need-loop-preserved invariant-loop decreases-loop
+loop-again : tie.Need-loop-i-preserved invariant-loop decreases-loop
 loop-again c =
-    let read = c.before in
-    let at = read.before.before in (
+    (
       omega arith,
       (
         omega (arith, few c),
-        tally_on (lots_reaching _ _) _ _ _ _ _ _ at.loop.invariant.1.1 _ read.before.loop-test.true
-            read.order_at_lem.ensures (lots_reaching _ _) _ (reaching_on _ _ _ _ c.lots-of.ensures),
+        tally_on (lots_reaching _ _) _ _ _ _ _ _ c.loop-i.invariant.1.1 _ c.loop-i-test.true
+            c.order_at-o.ensures (lots_reaching _ _) _ (reaching_on _ _ _ _ c.lots_of-lots.ensures),
       ),
     )
 
-pub lots-reaching-spec : {M : Type 1} → statement M
-lots-reaching-spec = tie.close (tie.spec
+pub lots_reaching_spec : {M : Type 1} → statement M
+lots_reaching_spec = tie.close (tie.spec
     invariant-loop
     decreases-loop
     (λ c. (omega arith, (omega arith, zero-add _)))  -- loop-holds
-    (λ c κs. omega arith)  -- order-at-requires
-    (λ c κs. search rules)  -- lots-of-requires
-    (λ c. omega (arith, few c))  -- add-lots
-    (λ c. omega arith)  -- add-i
+    (λ c κs. omega arith)  -- order_at-o-requires
+    (λ c κs. search rules)  -- lots_of-lots-requires
+    (λ c. omega (arith, few c))  -- overflow_add-lots
+    (λ c. omega arith)  -- overflow_add-i
     (λ c. omega arith)  -- loop-less
     loop-again
-    (λ c. tally_end (lots_reaching _ _) _ _ _ _ _ _ c.before.loop.invariant.1.1 c.loop-test.false (reaching_nil _ _)))  -- returns
+    (λ c. tally_end (lots_reaching _ _) _ _ _ _ _ _ c.loop-i.invariant.1.1 c.loop-i-test.false (reaching_nil _ _)))  -- returns

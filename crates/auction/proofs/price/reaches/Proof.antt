@@ -2,7 +2,7 @@
 use Rattle.auction.proofs.price.reaches.Statement.{statement}
 use Rattle.auction.proofs.price.reaches.Tie as tie
 
-pub reaches-spec : {M : Type 1} → statement M
-reaches-spec = tie.close (tie.spec
-    (λ c. rw c.before.if1.true)  -- returns
-    (λ c. rw c.before.if1.false))  -- returns-2
+pub reaches_spec : {M : Type 1} → statement M
+reaches_spec = tie.close (tie.spec
+    (λ c. rw c.if-sell.true)  -- returns-then-sell
+    (λ c. rw c.if-sell.false))  -- returns-2

@@ -166,6 +166,6 @@ sweep_spec = tie.close (tie.spec
     (λ c. ap length c.sweep.invariant.same)  -- shape_of-opposite-then-not-is_counterpart
     (λ c. search rules)  -- shape_of-area-then-not-is_counterpart
     returns-2
-    (λ c. c.set_lots.auto.0 ∙ ap length c.sweep.invariant.same)  -- shape_of-opposite-then-size-resting
-    (λ c. c.put_trade.kept.0 ∙ c.sweep.invariant.long)  -- shape_of-area-then-size-resting
+    (λ c. c.set_lots.auto.area ∙ ap length c.sweep.invariant.same)  -- shape_of-opposite-then-size-resting
+    (λ c. c.put_trade.auto.area ∙ c.sweep.invariant.long)  -- shape_of-area-then-size-resting
     returns-3)
