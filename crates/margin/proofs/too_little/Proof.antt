@@ -6,7 +6,7 @@ use Rattle.laws.proofs.Signed.{read_pos}
 use Rattle.margin.proofs.too_little.Statement.{statement}
 use Rattle.margin.proofs.too_little.Tie as tie
 
-pub too-little-spec : {M : Type 1} → statement M
-too-little-spec = tie.close (tie.spec
-    (λ c. search rules)  -- cast-result
+pub too_little_spec : {M : Type 1} → statement M
+too_little_spec = tie.close (tie.spec
+    (λ c. search rules)  -- overflow_cast-result
     (λ c. rw (to_z-of_z c.ranges.balance, read_pos c.args.charged (omega arith))))  -- returns

@@ -4,10 +4,10 @@ use borrow.Author.Rules.{rules}
 use Rattle.dayprofit.proofs.price.part.Statement.{statement}
 use Rattle.dayprofit.proofs.price.part.Tie as tie
 
-pub part-spec : {M : Type 1} → statement M
-part-spec = tie.close (tie.spec
-    (λ c. part_none _ _ c.if1.true)  -- returns
-    (λ c. search rules)  -- cast-price
-    (λ c. search rules)  -- cast-lots
-    (λ c. part_fits 0 _ c.before.before.before.before.requires)  -- mul-t6
-    (λ c. part_all _ _ c.before.before.if1.false))  -- returns-2
+pub part_spec : {M : Type 1} → statement M
+part_spec = tie.close (tie.spec
+    (λ c. part_none _ _ c.if-t-contract.true)  -- returns-then-t-contract
+    (λ c. search rules)  -- overflow_cast-price
+    (λ c. search rules)  -- overflow_cast-lots
+    (λ c. part_fits 0 _ c.requires)  -- overflow_mul-result
+    (λ c. part_all _ _ c.if-t-contract.false))  -- returns-2

@@ -4,27 +4,27 @@ use borrow.Author.Rules.{rules}
 use Rattle.dayprofit.proofs.price.quoted.Statement.{statement}
 use Rattle.dayprofit.proofs.price.quoted.Tie as tie
 
-returns : tie.Need-returns
-returns c = no_bid _ _ _ _ _ _ c.if1.true
+returns : tie.Need-returns-then-buycount-eq0
+returns c = no_bid _ _ _ _ _ _ c.if-buycount-eq0.true
 
-returns-2 : tie.Need-returns-2
-returns-2 c = no_offer _ _ _ _ _ _ c.if2.true
+returns-2 : tie.Need-returns-then-sellcount-eq0
+returns-2 c = no_offer _ _ _ _ _ _ c.if-sellcount-eq0.true
 
-order-at-requires : tie.Need-order-at-requires
+order-at-requires : tie.Need-order_at-bid-requires
 order-at-requires c κs = search rules
 
-order-at-requires-2 : tie.Need-order-at-requires-2
+order-at-requires-2 : tie.Need-order_at-offer-requires
 order-at-requires-2 c κs = search rules
 
 middle-requires : tie.Need-middle-requires
 middle-requires c κs = search rules
 
-returns-3 : tie.Need-returns-3
+returns-3 : tie.Need-returns
 returns-3 c =
-    both_quoted _ _ _ _ _ _ _ _ _ c.before.before.before.before.if1.false c.before.before.before.if2.false c.before.before.order_at_lem.ensures
-    c.before.order-at2.ensures c.middle.ensures
+    both_quoted _ _ _ _ _ _ _ _ _ c.if-buycount-eq0.false c.if-sellcount-eq0.false c.order_at-bid.ensures
+    c.order_at-offer.ensures c.middle.ensures
 
-pub quoted-spec : {M : Type 1} → statement M
-quoted-spec =
+pub quoted_spec : {M : Type 1} → statement M
+quoted_spec =
     tie.close
     (tie.spec returns returns-2 order-at-requires order-at-requires-2 middle-requires returns-3)

@@ -5,41 +5,37 @@ use Rattle.dayprofit.proofs.Trading.{Trading, trading_none, trading_more, value_
 use Rattle.dayprofit.proofs.price.traded.Statement.{statement}
 use Rattle.dayprofit.proofs.price.traded.Tie as tie
 
-abbrev invariant-loop : tie.invariant-loop
+abbrev invariant-loop : tie.invariant-loop-i
 invariant-loop area count contract value₀ lots₀ i₀ value lots i = Trading area count contract value lots i
 
-abbrev decreases-loop : tie.decreases-loop
+abbrev decreases-loop : tie.decreases-loop-i
 decreases-loop area count contract value₀ lots₀ i₀ value lots i = count - i
 
--- back to the loop's head
-abbrev Head : tie.After-struct-known invariant-loop decreases-loop → tie.At-loop invariant-loop decreases-loop
-Head c = c.before.before.before.before
-
-add-value : tie.Need-overflow-add-value invariant-loop decreases-loop
+add-value : tie.Need-overflow_add-value invariant-loop decreases-loop
 add-value c =
-    value_fits _ _ _ (Head c).before.before.requires _ _ _ _ _ c.before.before.before.loop-test.true c.before.before.before.before.loop.invariant
-    c.before.before.trade_at_lem.ensures c.before.part.ensures
+    value_fits _ _ _ c.requires _ _ _ _ _ c.loop-i-test.true c.loop-i.invariant
+    c.trade_at-t.ensures c.part-p.ensures
 
-add-lots : tie.Need-overflow-add-lots invariant-loop decreases-loop
+add-lots : tie.Need-overflow_add-lots invariant-loop decreases-loop
 add-lots c =
-    lots_fits _ _ _ (Head c.before).before.before.pre _ _ _ _ _ c.before.before.before.before.loop-test.true (Head c.before).loop.inv
-    c.before.before.before.trade_at_lem.ensures c.before.before.part.ensures
+    lots_fits _ _ _ c.requires _ _ _ _ _ c.loop-i-test.true c.loop-i.invariant
+    c.trade_at-t.ensures c.part-p.ensures
 
-loop-again : tie.Need-loop-preserved invariant-loop decreases-loop
+loop-again : tie.Need-loop-i-preserved invariant-loop decreases-loop
 loop-again c =
-    trading_more _ _ _ (Head c.before).before.before.pre _ _ _ _ _ c.before.before.before.before.loop-test.true
-    (Head c.before).loop.inv c.before.before.before.trade_at_lem.ensures c.before.before.part.ensures
+    trading_more _ _ _ c.requires _ _ _ _ _ c.loop-i-test.true
+    c.loop-i.invariant c.trade_at-t.ensures c.part-p.ensures
 
-pub traded-spec : {M : Type 1} → statement M
-traded-spec = tie.close (tie.spec
+pub traded_spec : {M : Type 1} → statement M
+traded_spec = tie.close (tie.spec
     invariant-loop
     decreases-loop
     (λ c. trading_none _ _ _)  -- loop-holds
-    (λ c κs. omega arith)  -- trade-at-requires
-    (λ c κs. sized_at _ _ c.before.before.before.before.requires _ _ c.before.loop-test.true c.trade_at_lem.ensures)  -- part-requires
+    (λ c κs. omega arith)  -- trade_at-t-requires
+    (λ c κs. sized_at _ _ c.requires _ _ c.loop-i-test.true c.trade_at-t.ensures)  -- part-p-requires
     add-value
     add-lots
-    (λ c. omega arith)  -- add-i
+    (λ c. omega arith)  -- overflow_add-i
     (λ c. omega arith)  -- loop-less
     loop-again
-    (λ c. trading_done _ _ _ c.before.before.before.requires _ _ _ c.loop-test.false c.before.loop.invariant))  -- returns
+    (λ c. trading_done _ _ _ c.requires _ _ _ c.loop-i-test.false c.loop-i.invariant))  -- returns

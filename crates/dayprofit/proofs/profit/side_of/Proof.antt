@@ -4,15 +4,15 @@ use borrow.Author.Rules.{rules}
 use Rattle.dayprofit.proofs.profit.side_of.Statement.{statement}
 use Rattle.dayprofit.proofs.profit.side_of.Tie as tie
 
-pub side-of-spec : {M : Type 1} → statement M
-side-of-spec = tie.close (tie.spec
-    (λ c κs. search rules)  -- smaller-requires
-    (λ c. search rules)  -- cast-cost
-    (λ c. first_fits _ _ _ c.before.requires _ c.smaller.ensures)  -- mul-cost
-    (λ c. closed_fits _ _ _ c.before.requires _ c.smaller.ensures)  -- add-cost
-    (λ c. search rules)  -- add-t11
-    (λ c. search rules)  -- sub-t12
-    (λ c. start_fits _ _ _ c.before.before.requires)  -- mul-t10
-    (λ c. opened_fits _ _ _ c.before.before.before.requires)  -- add-t13
-    (λ c. closed_below _ _ _ c.before.before.before.requires _ c.before.before.smaller.ensures)  -- sub-t14
-    (λ c. rw c.before.before.smaller.ensures))  -- returns
+pub side_of_spec : {M : Type 1} → statement M
+side_of_spec = tie.close (tie.spec
+    (λ c κs. search rules)  -- smaller-first-requires
+    (λ c. search rules)  -- overflow_cast-cost
+    (λ c. first_fits _ _ _ c.requires _ c.smaller-first.ensures)  -- overflow_mul-cost
+    (λ c. closed_fits _ _ _ c.requires _ c.smaller-first.ensures)  -- overflow_add-cost
+    (λ c. search rules)  -- overflow_add-result
+    (λ c. search rules)  -- overflow_sub-result
+    (λ c. start_fits _ _ _ c.requires)  -- overflow_mul-result
+    (λ c. opened_fits _ _ _ c.requires)  -- overflow_add-result-2
+    (λ c. closed_below _ _ _ c.requires _ c.smaller-first.ensures)  -- overflow_sub-result-2
+    (λ c. rw c.smaller-first.ensures))  -- returns

@@ -7,56 +7,41 @@ use Rattle.dayprofit.proofs.Passes.{Passing, TradeRead, taking, Taken, taking_no
 use Rattle.dayprofit.proofs.sums.take_first.Statement.{statement}
 use Rattle.dayprofit.proofs.sums.take_first.Tie as tie
 
-abbrev invariant-loop : tie.invariant-loop
+abbrev invariant-loop : tie.invariant-loop-i
 invariant-loop area count left₀ used₀ i₀ left used i = Passing (Taken left₀) area count left used i
 
-abbrev decreases-loop : tie.decreases-loop
+abbrev decreases-loop : tie.decreases-loop-i
 decreases-loop area count left₀ used₀ i₀ left used i = count - i
 
--- back to the start
-abbrev Begun : tie.At-loop invariant-loop decreases-loop → tie.Start invariant-loop decreases-loop
-Begun c = c.before.before.before.before
-
--- back to the call of `take-leg`
-abbrev Take-leg : tie.After-take-leg-arg4 invariant-loop decreases-loop → tie.After-take-leg invariant-loop decreases-loop
-Take-leg c = c.before.before.before.before.before.before
-
--- back to the call of `take-leg2`
-abbrev Take-leg2 : tie.After-slice-known6 invariant-loop decreases-loop → tie.After-take-leg2 invariant-loop decreases-loop
-Take-leg2 c = c.before.before.before.before
-
 -- the trade that a turn reads
-read : (c : tie.After-trade-at invariant-loop decreases-loop) → let s = Begun c.before.before in TradeRead s.args.area.now s.args.count c.before.before.loop.i c.trade_at_lem.result
-read c = record { placed = (Begun c.before.before).pre.0; here = c.before.loop-test.true; read = c.trade_at_lem.ensures }
+read : (c : tie.After-trade_at-t invariant-loop decreases-loop) → TradeRead c.args.area.now c.args.count c.loop-i.i c.trade_at-t.result
+read c = record { placed = c.requires.0; here = c.loop-i-test.true; read = c.trade_at-t.ensures }
 
-take-leg-requires : tie.Need-take-leg-requires invariant-loop decreases-loop
-take-leg-requires c κs = buy_addable (read c.before.before) (taking (Begun c.before.before.before.before).args.left.now) c.before.before.before.before.loop.invariant
+take-leg-requires : tie.Need-take_leg-requires invariant-loop decreases-loop
+take-leg-requires c κs = buy_addable (read c.before.before) (taking c.args.left.now) c.loop-i.invariant
 
-take-leg-requires-2 : tie.Need-take-leg-requires-2 invariant-loop decreases-loop
+take-leg-requires-2 : tie.Need-take_leg-requires-in-loop-i invariant-loop decreases-loop
 take-leg-requires-2 c κs =
-    let t = (Take-leg c).before.before.before in
-    let buy = (Take-leg c).take-leg.ensures in
-    sell_addable (read t) (taking (Begun t.before.before).args.left.now) t.before.before.loop.inv buy.0 buy.1
+    let buy = c.take_leg.ensures in
+    sell_addable (read c.before.before.before.before.before.before.before.before.before) (taking c.args.left.now) c.loop-i.invariant buy.0 buy.1
 
-loop-again : tie.Need-loop-preserved invariant-loop decreases-loop
+loop-again : tie.Need-loop-i-preserved invariant-loop decreases-loop
 loop-again c =
-    let take-leg = Take-leg (Take-leg2 c).before in
-    let t = take-leg.before.before.before in
-    let buy = take-leg.take-leg.ensures in
-    let sell = c.before.before.before.before.take-leg2.ensures in
-    passing_more (read t) (taking (Begun t.before.before).args.left.now) t.before.before.loop.inv buy.0 buy.1 sell.0 sell.1
+    let buy = c.take_leg.ensures in
+    let sell = c.take_leg-in-loop-i.ensures in
+    passing_more (read c.before.before.before.before.before.before.before.before.before.before.before.before.before.before) (taking c.args.left.now) c.loop-i.invariant buy.0 buy.1 sell.0 sell.1
 
 pub take_first_spec : {M : Type 1} → statement M
 take_first_spec = tie.close (tie.spec
     invariant-loop
     decreases-loop
-    (λ c. taking_none _ _ _ _ c.before.before.before.requires.1 c.before.before.before.requires.2)  -- loop-holds
-    (λ c κs. omega (arith, (Begun c.before).pre.0.trades.room))  -- trade-at-requires
+    (λ c. taking_none _ _ _ _ c.requires.1 c.requires.2)  -- loop-holds
+    (λ c κs. omega (arith, c.requires.0.trades.room))  -- trade_at-t-requires
     take-leg-requires
     take-leg-requires-2
-    (λ c. omega arith)  -- add-i
+    (λ c. omega arith)  -- overflow_add-i
     (λ c. omega arith)  -- loop-less
     loop-again
-    (λ c. c.before.loop.invariant.kept.room ∙ sym (Begun c.before).pre.1)  -- same-length
-    (λ c. c.before.loop.invariant.kept.room_too ∙ sym (ap length (Begun c.before).pre.2))  -- same-length-2
-    (λ c. taking_done _ _ _ _ _ _ c.loop-test.false c.before.loop.invariant))  -- returns
+    (λ c. c.loop-i.invariant.kept.room ∙ sym c.requires.1)  -- shape_of-left
+    (λ c. c.loop-i.invariant.kept.room_too ∙ sym (ap length c.requires.2))  -- shape_of-used
+    (λ c. taking_done _ _ _ _ _ _ c.loop-i-test.false c.loop-i.invariant))  -- returns
