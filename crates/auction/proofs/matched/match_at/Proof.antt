@@ -138,8 +138,8 @@ turns-again-3 c =
 
 returns : tie.Need-returns-then-i-bought invariant-turns decreases-turns
 returns c =
-    ⊎_elim (λ ended. stopped_buys c.turns.invariant c.wide-c.ensures ended.taken)
-    (λ ended. stopped_sells c.turns.invariant c.wide-c.ensures (eqb-true _ _ ended.1.taken)) c.then-i-bought.branch
+    ⊎_elim (λ ended. stopped_buys c.turns.invariant c.wide-c.ensures ended)
+    (λ ended. stopped_sells c.turns.invariant c.wide-c.ensures ended.1) c.then-i-bought.either
 
 returns-2 : tie.Need-returns-then-not-both_reach invariant-turns decreases-turns
 returns-2 c =

@@ -5,7 +5,7 @@ use Rattle.auction.proofs.price.chosen.Statement.{statement}
 use Rattle.auction.proofs.price.chosen.Tie as tie
 
 returns : tie.Need-returns
-returns c = searched _ _ _ c.first_price-price.ensures c.level_at-first.ensures c.best_among.ensures c.best_among.ensures
+returns c = searched _ _ _ c.first_price-price.ensures c.level_at-first.ensures c.best_among-buy.ensures c.best_among.ensures
 
 pub chosen_spec : {M : Type 1} → statement M
 chosen_spec = tie.close (tie.spec
