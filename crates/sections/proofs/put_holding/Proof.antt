@@ -4,9 +4,9 @@ use borrow.Author.Rules.{rules}
 use Rattle.sections.proofs.put_holding.Statement.{statement}
 use Rattle.sections.proofs.put_holding.Tie as tie
 
-pub put-holding-spec : {M : Type 1} → statement M
-put-holding-spec = tie.close (tie.spec
-    (λ c κs. search rules)  -- put-u32-requires
-    (λ c κs. search rules)  -- put-u32-requires-2
-    (λ c. search rules)  -- same-length
+pub put_holding_spec : {M : Type 1} → statement M
+put_holding_spec = tie.close (tie.spec
+    (λ c κs. search rules)  -- put_u32-next-requires
+    (λ c κs. search rules)  -- put_u32-requires
+    (λ c. search rules)  -- shape_of-out
     (λ c. search holding_written))  -- returns

@@ -8,36 +8,36 @@ use Rattle.audit.proofs.accounts.balance_in_range.Tie as tie
 wide64-requires : tie.Need-wide64-requires
 wide64-requires c κs = search rules
 
-mul_most : tie.Need-overflow-mul-most
+mul_most : tie.Need-overflow_mul-most
 mul_most c = omega (arith, c.wide64.ensures)
 
-add_most : tie.Need-overflow-add-most
+add_most : tie.Need-overflow_add-most
 add_most c = omega (arith, c.wide64.ensures)
 
-cast-limit : tie.Need-overflow-cast-limit
+cast-limit : tie.Need-overflow_cast-limit
 cast-limit c = omega (arith, c.wide64.ensures)
 
-returns : tie.Need-returns
+returns : tie.Need-returns-then-limit-balance
 returns c =
-    balance_high c.before.before.before.args.settlements c.before.before.wide64.ensures c.before.before.before.requires
-    c.before.before.before.args.a (record { sfits = c.before.struct_told.given.0.1 }) c.if1.true
+    balance_high c.args.settlements c.wide64.ensures c.requires
+    c.args.a (record { sfits = c.struct_told-1.given.0.1 }) c.if-limit-balance.true
 
-sub-if2 : tie.Need-overflow-sub-if2
+sub-if2 : tie.Need-overflow_sub-limit
 sub-if2 c =
-    low_fits c.before.before.before.args.settlements c.before.before.wide64.ensures c.before.before.before.requires
-    c.before.before.before.args.a (record { sfits = c.before.struct_told.given.0.1 })
+    low_fits c.args.settlements c.wide64.ensures c.requires
+    c.args.a (record { sfits = c.struct_told-1.given.0.1 })
 
-returns-2 : tie.Need-returns-2
+returns-2 : tie.Need-returns-then-balance-limit
 returns-2 c =
-    balance_low c.before.before.before.before.args.settlements c.before.before.before.wide64.ensures c.before.before.before.before.requires
-    c.before.before.before.before.args.a (record { sfits = c.before.before.struct_told.given.0.1 }) c.if2.true
+    balance_low c.args.settlements c.wide64.ensures c.requires
+    c.args.a (record { sfits = c.struct_told-1.given.0.1 }) c.if-balance-limit.true
 
-returns-3 : tie.Need-returns-3
+returns-3 : tie.Need-returns
 returns-3 c =
-    balance_within c.before.before.before.before.args.settlements c.before.before.before.wide64.ensures c.before.before.before.before.requires
-    c.before.before.before.before.args.a (record { sfits = c.before.before.struct_told.given.0.1 }) c.before.if1.false c.if2.false
+    balance_within c.args.settlements c.wide64.ensures c.requires
+    c.args.a (record { sfits = c.struct_told-1.given.0.1 }) c.if-limit-balance.false c.if-balance-limit.false
 
-pub balance-in-range-spec : {M : Type 1} → statement M
-balance-in-range-spec =
+pub balance_in_range_spec : {M : Type 1} → statement M
+balance_in_range_spec =
     tie.close
     (tie.spec wide64-requires mul_most add_most cast-limit returns sub-if2 returns-2 returns-3)

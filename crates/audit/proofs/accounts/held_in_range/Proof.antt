@@ -1,4 +1,6 @@
 -- `audit::accounts::held_in_range` meets its contract. The invariant: what every account before place a holds passes. Assumes nothing.
+use Rattle.std.proofs.Common.{ap}
+use Rattle.std.specs.Prelude.{not}
 use mathlib.Core.Bool.{true, false}
 use mathlib.Core.Path.{◌≡◌, sym, ◌∙◌}
 use Prim.Native.Nat.{◌-◌, ◌<◌, ◌≤◌}
@@ -18,92 +20,78 @@ use Rattle.audit.proofs.Walks.{all_end}
 use Rattle.audit.proofs.accounts.held_in_range.Statement.{statement}
 use Rattle.audit.proofs.accounts.held_in_range.Tie as tie
 
-abbrev invariant-loop : tie.invariant-loop
+abbrev invariant-loop : tie.invariant-loop-a
 invariant-loop c buys sells state limit buycount sellcount accounts bought sold a₀ a =
     (a ≤ accounts) × (all (λ a. holding_in_range (listing state buys sells c) a (holding_at state.accounts a c)) a ≡ true)
 
-abbrev decreases-loop : tie.decreases-loop
+abbrev decreases-loop : tie.decreases-loop-a
 decreases-loop c buys sells state limit buycount sellcount accounts bought sold a₀ a = accounts - a
 
--- back to the start
-abbrev Begun-from-sellcount : tie.After-sellcount invariant-loop decreases-loop → tie.Start invariant-loop decreases-loop
-Begun-from-sellcount c = c.before.before.before.before.before
-
--- back to the start
-abbrev Begun : tie.In-loop invariant-loop decreases-loop → tie.Start invariant-loop decreases-loop
-Begun c = c.before.before.before.before.before.before.before.before.before
-
--- back to the loop's head
-abbrev Head : tie.After-holding-in-range invariant-loop decreases-loop → tie.At-loop invariant-loop decreases-loop
-Head c = c.before.before.before.before
-
 -- the account is one of 32
-few : (c : tie.In-loop invariant-loop decreases-loop) → c.before.loop.a < 32
-few c = omega (arith, c.loop-test.true, (counts_ok _ (Begun c).requires.0.counts).accounts_high)
+few : (c : tie.In-loop-a invariant-loop decreases-loop) → c.loop-a.a < 32
+few c = omega (arith, c.loop-a-test.true, (counts_ok _ c.requires.0.counts).accounts_high)
 
 -- the call's answer
-tested : (c : tie.After-holding-in-range invariant-loop decreases-loop)
-    → let s = Begun c.before.before.before in
-    let a = c.before.before.before.before.loop.a in
-    c.holding_in_range_lem.result ≡ holding_in_range (listing s.args.t1 s.args.buys.now s.args.sells.now s.args.c) a (holding_at s.args.t1.accounts a s.args.c)
+tested : (c : tie.After-holding_in_range invariant-loop decreases-loop)
+    → let a = c.loop-a.a in
+    c.holding_in_range.result ≡ holding_in_range (listing c.args.state c.args.buys.now c.args.sells.now c.args.c) a (holding_at c.args.state.accounts a c.args.c)
 unfolding listing_in holding_at account_at
 tested c =
-    let s = Begun c.before.before.before in
-    c.holding_in_range_lem.ensures
-    ∙ held_same (listing s.args.t1 s.args.buys.now s.args.sells.now s.args.c) _ _ (Head c).before.before.resting-lots.ensures
-    (Head c).before.resting-lots2.ensures (few c.before.before.before)
+    c.holding_in_range.ensures
+    ∙ held_same (listing c.args.state c.args.buys.now c.args.sells.now c.args.c) _ _ c.resting_lots-bought.ensures
+    c.resting_lots-sold.ensures (few c.before.before.before)
 
-resting-lots-requires : tie.Need-resting-lots-requires invariant-loop decreases-loop
+resting-lots-requires : tie.Need-resting_lots-bought-requires invariant-loop decreases-loop
 unfolding listing_in
 resting-lots-requires c κs =
-    let s = Begun-from-sellcount c in (
-      few_buys s.pre.0 s.pre.1,
-      buys_room s.pre.0 s.pre.1,
-      λ i l. orders_summable _ _ _ (listing s.args.t1 s.args.buys.now s.args.sells.now s.args.c) (counts_ok _ s.pre.0.counts).accounts_high
-          s.pre.2 false i (rw length_queue l),
+    (
+      few_buys c.requires.0 c.requires.1,
+      buys_room c.requires.0 c.requires.1,
+      λ i l. orders_summable _ _ _ (listing c.args.state c.args.buys.now c.args.sells.now c.args.c) (counts_ok _ c.requires.0.counts).accounts_high
+          c.requires.2 false i (rw length_queue l),
     )
 
-resting-lots-requires-2 : tie.Need-resting-lots-requires-2 invariant-loop decreases-loop
+resting-lots-requires-2 : tie.Need-resting_lots-sold-requires invariant-loop decreases-loop
 unfolding listing_in
 resting-lots-requires-2 c κs =
-    let s = Begun-from-sellcount c.before in (
-      few_sells s.pre.0 s.pre.1,
-      sells_room s.pre.0 s.pre.1,
-      λ i l. orders_summable _ _ _ (listing s.args.t1 s.args.buys.now s.args.sells.now s.args.c) (counts_ok _ s.pre.0.counts).accounts_high
-          s.pre.2 true i (rw length_queue l),
+    (
+      few_sells c.requires.0 c.requires.1,
+      sells_room c.requires.0 c.requires.1,
+      λ i l. orders_summable _ _ _ (listing c.args.state c.args.buys.now c.args.sells.now c.args.c) (counts_ok _ c.requires.0.counts).accounts_high
+          c.requires.2 true i (rw length_queue l),
     )
 
-pub held-in-range-spec : {M : Type 1} → statement M
-held-in-range-spec = tie.close (tie.spec
+pub held_in_range_spec : {M : Type 1} → statement M
+held_in_range_spec = tie.close (tie.spec
     invariant-loop
     decreases-loop
-    (λ c. search rules)  -- mul-contract
-    (λ c. contract_in c.before.before.requires.0 c.before.before.requires.1)  -- element-copy-out-contract
-    (λ c. search rules)  -- mul-buycount
-    (λ c. contract_in c.before.before.before.requires.0 c.before.before.before.requires.1)  -- element-copy-out-buycount
-    (λ c. search rules)  -- mul-sellcount
-    (λ c. contract_in c.before.before.before.before.requires.0 c.before.before.before.before.requires.1)  -- element-copy-out-sellcount
+    (λ c. search rules)  -- offset_bounds-state-c
+    (λ c. contract_in c.requires.0 c.requires.1)  -- bounds-state-c
+    (λ c. search rules)  -- offset_bounds-state-c-2
+    (λ c. contract_in c.requires.0 c.requires.1)  -- bounds-state-c-2
+    (λ c. search rules)  -- offset_bounds-state-c-3
+    (λ c. contract_in c.requires.0 c.requires.1)  -- bounds-state-c-3
     resting-lots-requires
     resting-lots-requires-2
     (λ c. (omega arith, all_none _))  -- loop-holds
-    (λ c. omega (arith, few c))  -- mul-who
-    (λ c. few c)  -- element-copy-out-who
-    (λ c. search rules)  -- mul-h
-    (λ c. contract_in (Begun c.before).pre.0 (Begun c.before).pre.1)  -- element-copy-out-h
-    (λ c. omega (arith, few c.before.before))  -- mul-opens
-    (λ c. omega (arith, few c.before.before))  -- mul-closes
-    (λ c. omega (arith, few c.before.before))  -- add-closes
-    (λ c. omega (arith, few c.before.before))  -- mul-holding-in-range
-    (λ c. omega (arith, few c.before.before))  -- array-read-holding-in-range
-    (λ c. omega (arith, few c.before.before))  -- mul-holding-in-range-2
-    (λ c. omega (arith, few c.before.before))  -- array-read-holding-in-range-2
-    (λ c. omega (arith, few c.before.before))  -- mul-holding-in-range-3
-    (λ c. omega (arith, few c.before.before))  -- array-read-holding-in-range-3
-    (λ c. omega (arith, few c.before.before))  -- mul-holding-in-range-4
-    (λ c. omega (arith, few c.before.before))  -- array-read-holding-in-range-4
-    (λ c κs. search rules)  -- holding-in-range-requires
-    (λ c. sym (all_stop _ _ _ c.before.before.before.before.loop-test.true (refused (tested c.before) c.if1.true)))  -- returns
-    (λ c. omega arith)  -- add-a
+    (λ c. omega (arith, few c))  -- offset_bounds-state-a
+    (λ c. few c)  -- bounds-state-a
+    (λ c. search rules)  -- offset_bounds-who-c
+    (λ c. contract_in c.requires.0 c.requires.1)  -- bounds-who-c
+    (λ c. omega (arith, few c.before.before))  -- overflow_mul-opens
+    (λ c. omega (arith, few c.before.before))  -- overflow_mul-closes
+    (λ c. omega (arith, few c.before.before))  -- overflow_add-closes
+    (λ c. omega (arith, few c.before.before))  -- offset_bounds-bought-opens
+    (λ c. omega (arith, few c.before.before))  -- bounds-bought-opens
+    (λ c. omega (arith, few c.before.before))  -- offset_bounds-bought-closes
+    (λ c. omega (arith, few c.before.before))  -- bounds-bought-closes
+    (λ c. omega (arith, few c.before.before))  -- offset_bounds-sold-opens
+    (λ c. omega (arith, few c.before.before))  -- bounds-sold-opens
+    (λ c. omega (arith, few c.before.before))  -- offset_bounds-sold-closes
+    (λ c. omega (arith, few c.before.before))  -- bounds-sold-closes
+    (λ c κs. search rules)  -- holding_in_range-requires
+    (λ c. sym (all_stop _ _ _ c.loop-a-test.true (refused (tested c.before) (ap not c.if-not-holding_in_range.true))))  -- returns-then-not-holding_in_range
+    (λ c. omega arith)  -- overflow_add-a
     (λ c. omega arith)  -- loop-less
-    (λ c. (omega arith, all_more _ _ (Head c.before).loop.inv.1 (passed (tested c.before) c.if1.false)))  -- loop-again
-    (λ c. all_end _ c.before.loop.invariant.1 c.before.loop.invariant.0 c.loop-test.false))  -- returns-2
+    (λ c. (omega arith, all_more _ _ c.loop-a.invariant.1 (passed (tested c.before) (ap not c.if-not-holding_in_range.false))))  -- loop-again
+    (λ c. all_end _ c.loop-a.invariant.1 c.loop-a.invariant.0 c.loop-a-test.false))  -- returns-2

@@ -12,43 +12,37 @@ use Rattle.audit.proofs.Walks.{Each, each_end, each_out, each_turn, next_in, non
 use Rattle.audit.proofs.accounts.marks_in_range.Statement.{statement}
 use Rattle.audit.proofs.accounts.marks_in_range.Tie as tie
 
-abbrev invariant-loop : tie.invariant-loop
+abbrev invariant-loop : tie.invariant-loop-a
 invariant-loop accounts list a₀ a = (a ≤ accounts) × Each (all_of mark_in_range (take accounts list)) mark_in_range (take accounts list) a
 
-abbrev decreases-loop : tie.decreases-loop
+abbrev decreases-loop : tie.decreases-loop-a
 decreases-loop accounts list a₀ a = accounts - a
 
--- back to the start
-abbrev Begun : tie.In-loop invariant-loop decreases-loop → tie.Start invariant-loop decreases-loop
-Begun c = c.before.before
-
 -- the accounts lie within the array
-room : (c : tie.Start invariant-loop decreases-loop) → c.args.accounts ≤ length c.args.t1
+room : (c : tie.Start invariant-loop decreases-loop) → c.args.accounts ≤ length c.args.list
 room c =
-    let e : length c.args.t1 ≡ 32 = search rules in
+    let e : length c.args.list ≡ 32 = search rules in
     omega (arith, c.requires)
 
-returns : tie.Need-returns invariant-loop decreases-loop
+returns : tie.Need-returns-then-who-gt1 invariant-loop decreases-loop
 unfolding mark_in_range
 returns c =
-    let s = Begun c.before.before.before in
-    each_out c.before.before.before.before.loop.invariant.1 (next_in _ s.args.t1 _ no_account c.before.before.before.loop-test.true (room s)) (lt-leb _ _ c.if1.true)
+    each_out c.loop-a.invariant.1 (next_in _ c.args.list _ no_account c.loop-a-test.true (room c.before.before.before.before.before)) (lt-leb _ _ c.if-who-gt1.true)
 
-loop-again : tie.Need-loop-preserved invariant-loop decreases-loop
+loop-again : tie.Need-loop-a-preserved invariant-loop decreases-loop
 unfolding mark_in_range
 loop-again c =
-    let s = Begun c.before.before.before in
-    (omega arith, each_turn c.before.before.before.before.loop.invariant.1 (next_in _ s.args.t1 _ no_account c.before.before.before.loop-test.true (room s)) (le-leb _ _ c.if1.false))
+    (omega arith, each_turn c.loop-a.invariant.1 (next_in _ c.args.list _ no_account c.loop-a-test.true (room c.before.before.before.before.before)) (le-leb _ _ c.if-who-gt1.false))
 
-pub marks-in-range-spec : {M : Type 1} → statement M
-marks-in-range-spec = tie.close (tie.spec
+pub marks_in_range_spec : {M : Type 1} → statement M
+marks_in_range_spec = tie.close (tie.spec
     invariant-loop
     decreases-loop
     (λ c. (omega arith, record { rest = refl }))  -- loop-holds
-    (λ c. omega arith)  -- mul-who
-    (λ c. omega arith)  -- array-copy-out-who
+    (λ c. omega arith)  -- offset_bounds-list-a
+    (λ c. omega arith)  -- bounds-list-a
     returns
-    (λ c. omega arith)  -- add-a
+    (λ c. omega arith)  -- overflow_add-a
     (λ c. omega arith)  -- loop-less
     loop-again
-    (λ c. each_end c.before.loop.invariant.1 (none_in _ c.before.before.args.t1 _ c.loop-test.false)))  -- returns-2
+    (λ c. each_end c.loop-a.invariant.1 (none_in _ c.args.list _ c.loop-a-test.false)))  -- returns-2

@@ -12,22 +12,22 @@ use Rattle.audit.proofs.counts.few_orders.Statement.{statement}
 use Rattle.audit.proofs.counts.few_orders.Tie as tie
 use Rattle.rules.specs.Bounds.{max_resting}
 
-abbrev invariant-loop : tie.invariant-loop
+abbrev invariant-loop : tie.invariant-loop-c
 invariant-loop contracts counts c₀ c =
     (c ≤ contracts) × (all (λ c. leb (get_or counts c 0) max_resting) c ≡ true)
 
-abbrev decreases-loop : tie.decreases-loop
+abbrev decreases-loop : tie.decreases-loop-c
 decreases-loop contracts counts c₀ c = contracts - c
 
-pub few-orders-spec : {M : Type 1} → statement M
-few-orders-spec = tie.close (tie.spec
+pub few_orders_spec : {M : Type 1} → statement M
+few_orders_spec = tie.close (tie.spec
     invariant-loop
     decreases-loop
     (λ c. (omega arith, all_none _))  -- loop-holds
-    (λ c. omega arith)  -- mul-count
-    (λ c. omega arith)  -- array-read-count
-    (λ c. sym (all_stop _ _ _ c.before.loop-test.true (lt-leb _ _ c.if1.true)))  -- returns
-    (λ c. omega arith)  -- add-c
+    (λ c. omega arith)  -- offset_bounds-counts-c
+    (λ c. omega arith)  -- bounds-counts-c
+    (λ c. sym (all_stop _ _ _ c.loop-c-test.true (lt-leb _ _ c.if-count-gt-MAX_RESTING.true)))  -- returns-then-count-gt-MAX_RESTING
+    (λ c. omega arith)  -- overflow_add-c
     (λ c. omega arith)  -- loop-less
-    (λ c. (omega arith, all_more _ _ c.before.before.loop.invariant.1 (le-leb _ _ c.if1.false)))  -- loop-again
-    (λ c. all_end _ c.before.loop.invariant.1 c.before.loop.invariant.0 c.loop-test.false))  -- returns-2
+    (λ c. (omega arith, all_more _ _ c.loop-c.invariant.1 (le-leb _ _ c.if-count-gt-MAX_RESTING.false)))  -- loop-again
+    (λ c. all_end _ c.loop-c.invariant.1 c.loop-c.invariant.0 c.loop-c-test.false))  -- returns-2

@@ -14,47 +14,43 @@ use Rattle.audit.proofs.FieldLists.{few_more, listed_end, listed_more, listed_no
 use Rattle.audit.proofs.numbers.all_listed.Statement.{statement}
 use Rattle.audit.proofs.numbers.all_listed.Tie as tie
 
-abbrev invariant-loop : tie.invariant-loop
+abbrev invariant-loop : tie.invariant-loop-c
 invariant-loop state buys sells word contracts listed₀ c₀ listed c =
     (c ≤ contracts)
     × (listed.count ≤ 2 * max_resting * c)
     × (take listed.count listed.list ≡ all_listed (word_of word) (tabulate c (listing state buys sells)))
 
-abbrev decreases-loop : tie.decreases-loop
+abbrev decreases-loop : tie.decreases-loop-c
 decreases-loop state buys sells word contracts listed₀ c₀ listed c = contracts - c
 
--- back to the start
-abbrev Begun : tie.After-with-listing invariant-loop decreases-loop → tie.Start invariant-loop decreases-loop
-Begun c = c.before.before.before.before.before
-
-loop-holds : tie.Need-loop-init invariant-loop decreases-loop
+loop-holds : tie.Need-loop-c-init invariant-loop decreases-loop
 loop-holds c = (omega arith, omega arith, listed_none _ _)
 
-with-listing-requires : tie.Need-with-listing-requires invariant-loop decreases-loop
-with-listing-requires c κs = (c.before.loop.invariant.1, c.before.before.before.before.requires.0, c.loop-test.true, c.before.before.before.before.requires.1)
+with-listing-requires : tie.Need-with_listing-listed-requires invariant-loop decreases-loop
+with-listing-requires c κs = (c.loop-c.invariant.1, c.requires.0, c.loop-c-test.true, c.requires.1)
 
 -- a contract adds its two queues at most
-more : (c : tie.After-with-listing invariant-loop decreases-loop) → c.with-listing.result.count ≤ c.before.before.loop.listed.count + 2 * max_resting
+more : (c : tie.After-with_listing-listed invariant-loop decreases-loop) → c.with_listing-listed.result.count ≤ c.loop-c.listed.count + 2 * max_resting
 unfolding listing_in
-more c = few_more _ _ _ _ _ _ c.with-listing.ensures (few_buys (Begun c).requires.0 c.before.loop-test.true) (few_sells (Begun c).requires.0 c.before.loop-test.true)
+more c = few_more _ _ _ _ _ _ c.with_listing-listed.ensures (few_buys c.requires.0 c.loop-c-test.true) (few_sells c.requires.0 c.loop-c-test.true)
 
-add-c : tie.Need-overflow-add-c invariant-loop decreases-loop
+add-c : tie.Need-overflow_add-c invariant-loop decreases-loop
 add-c c = omega arith
 
-loop-less : tie.Need-loop-smaller invariant-loop decreases-loop
+loop-less : tie.Need-loop-c-smaller invariant-loop decreases-loop
 loop-less c = omega arith
 
-loop-again : tie.Need-loop-preserved invariant-loop decreases-loop
+loop-again : tie.Need-loop-c-preserved invariant-loop decreases-loop
 loop-again c =
-    (omega arith, omega (arith, more c), listed_more _ _ _ c.with-listing.ensures c.before.before.loop.invariant.2)
+    (omega arith, omega (arith, more c), listed_more _ _ _ c.with_listing-listed.ensures c.loop-c.invariant.2)
 
 returns : tie.Need-returns invariant-loop decreases-loop
 returns c = (
-  omega (arith, c.before.loop.invariant.1, c.before.loop.invariant.0, (counts_ok _ c.before.before.before.before.requires.0.counts).contracts_high),
-  listed_end _ _ _ _ c.before.loop.invariant.2 c.before.loop.invariant.0 c.loop-test.false,
+  omega (arith, c.loop-c.invariant.1, c.loop-c.invariant.0, (counts_ok _ c.requires.0.counts).contracts_high),
+  listed_end _ _ _ _ c.loop-c.invariant.2 c.loop-c.invariant.0 c.loop-c-test.false,
 )
 
-pub all-listed-spec : {M : Type 1} → statement M
-all-listed-spec =
+pub all_listed_spec : {M : Type 1} → statement M
+all_listed_spec =
     tie.close
     (tie.spec invariant-loop decreases-loop loop-holds with-listing-requires add-c loop-less loop-again returns)

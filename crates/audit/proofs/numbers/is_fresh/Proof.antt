@@ -11,39 +11,33 @@ use Rattle.audit.proofs.FieldLists.{other_number, same_number}
 use Rattle.audit.proofs.numbers.is_fresh.Statement.{statement}
 use Rattle.audit.proofs.numbers.is_fresh.Tie as tie
 
-abbrev invariant-loop : tie.invariant-loop
+abbrev invariant-loop : tie.invariant-loop-i
 invariant-loop list count at number i₀ i =
     (i ≤ count) × Each (all_of (λ k. not (eqb (get_or list at 0) k)) (drop (at + 1) (take count list))) (λ k. not (eqb (get_or list at 0) k)) (take count list) i
 
-abbrev decreases-loop : tie.decreases-loop
+abbrev decreases-loop : tie.decreases-loop-i
 decreases-loop list count at number i₀ i = count - i
 
--- back to the start
-abbrev Begun : tie.In-loop invariant-loop decreases-loop → tie.Start invariant-loop decreases-loop
-Begun c = c.before.before.before
-
-returns : tie.Need-returns invariant-loop decreases-loop
+returns : tie.Need-returns-then-list-i invariant-loop decreases-loop
 returns c =
-    let start = Begun c.before.before in
-    each_out c.before.before.before.loop.invariant.1 (next_in _ start.args.list.now _ 0 c.before.before.loop-test.true start.pre.1) (same_number c.if1.true)
+    each_out c.loop-i.invariant.1 (next_in _ c.args.list.now _ 0 c.loop-i-test.true c.requires.1) (same_number c.if-list-i.true)
 
-loop-again : tie.Need-loop-preserved invariant-loop decreases-loop
+loop-again : tie.Need-loop-i-preserved invariant-loop decreases-loop
 loop-again c =
-    let start = Begun c.before.before in
-    (omega arith, each_turn c.before.before.before.loop.invariant.1 (next_in _ start.args.list.now _ 0 c.before.before.loop-test.true start.pre.1) (other_number c.if1.false))
+    (omega arith, each_turn c.loop-i.invariant.1 (next_in _ c.args.list.now _ 0 c.loop-i-test.true c.requires.1) (other_number c.if-list-i.false))
 
-pub is-fresh-spec : {M : Type 1} → statement M
-is-fresh-spec = tie.close (tie.spec
+pub is_fresh_spec : {M : Type 1} → statement M
+is_fresh_spec = tie.close (tie.spec
     invariant-loop
     decreases-loop
-    (λ c. omega arith)  -- mul-number
-    (λ c. omega arith)  -- shared-slice-read-number
-    (λ c. omega arith)  -- add-i
+    (λ c. omega arith)  -- offset_bounds-list-at
+    (λ c. omega arith)  -- bounds-list-at
+    (λ c. omega arith)  -- overflow_add-i
     (λ c. (omega arith, record { rest = refl }))  -- loop-holds
-    (λ c. omega arith)  -- mul-if1
-    (λ c. omega arith)  -- shared-slice-read-if1
+    (λ c. omega arith)  -- offset_bounds-list-i
+    (λ c. omega arith)  -- bounds-list-i
     returns
-    (λ c. omega arith)  -- add-i-2
+    (λ c. omega arith)  -- overflow_add-i-in-loop-i
     (λ c. omega arith)  -- loop-less
     loop-again
-    (λ c. each_end c.before.loop.invariant.1 (none_in _ c.before.before.before.args.list.now _ c.loop-test.false)))  -- returns-2
+    (λ c. each_end c.loop-i.invariant.1 (none_in _ c.args.list.now _ c.loop-i-test.false)))  -- returns-2

@@ -1,4 +1,6 @@
 -- `audit::queues::contract_in_range` meets its contract: the three tests in turn. Assumes nothing.
+use Rattle.std.proofs.Common.{ap}
+use Rattle.std.specs.Prelude.{not}
 use mathlib.Core.Path.{◌∙◌}
 use borrow.Author.Rules.{rules}
 use borrow.Author.Tests.{le-leb, lt-leb}
@@ -8,27 +10,27 @@ use Rattle.audit.proofs.Clauses.{contract_chain}
 use Rattle.audit.proofs.queues.contract_in_range.Statement.{statement}
 use Rattle.audit.proofs.queues.contract_in_range.Tie as tie
 
-terms-in-range-requires : tie.Need-terms-in-range-requires
+terms-in-range-requires : tie.Need-terms_in_range-requires
 terms-in-range-requires c κs = search rules
 
-returns : tie.Need-returns
-returns c = fails (contract_chain _) 0 (refused c.before.terms_in_range_lem.ensures c.if1.true)
+returns : tie.Need-returns-then-not-terms_in_range
+returns c = fails (contract_chain _) 0 (refused c.terms_in_range.ensures (ap not c.if-not-terms_in_range.true))
 
-returns-2 : tie.Need-returns-2
-returns-2 c = fails (contract_chain _) 1 (lt-leb _ _ c.if2.true)
+returns-2 : tie.Need-returns-then-c-gt-MAX_PHASE
+returns-2 c = fails (contract_chain _) 1 (lt-leb _ _ c.if-c-gt-MAX_PHASE.true)
 
-tick-multiple-requires : tie.Need-tick-multiple-requires
+tick-multiple-requires : tie.Need-tick_multiple-requires
 tick-multiple-requires c κs =
-    (terms _ (passed c.before.before.before.terms_in_range_lem.ensures c.before.before.if1.false)).tick_low
+    (terms _ (passed c.terms_in_range.ensures (ap not c.if-not-terms_in_range.false))).tick_low
 
-returns-3 : tie.Need-returns-3
+returns-3 : tie.Need-returns
 returns-3 c =
-    c.tick-multiple.ensures ∙ last (contract_chain _) (
-      passed c.before.before.before.before.terms_in_range_lem.ensures
-          c.before.before.before.if1.false,
-      (le-leb _ _ c.before.if2.false, tt),
+    c.tick_multiple.ensures ∙ last (contract_chain _) (
+      passed c.terms_in_range.ensures
+          (ap not c.if-not-terms_in_range.false),
+      (le-leb _ _ c.if-c-gt-MAX_PHASE.false, tt),
     )
 
-pub contract-in-range-spec : {M : Type 1} → statement M
-contract-in-range-spec =
+pub contract_in_range_spec : {M : Type 1} → statement M
+contract_in_range_spec =
     tie.close (tie.spec terms-in-range-requires returns returns-2 tick-multiple-requires returns-3)

@@ -5,26 +5,22 @@ use Rattle.rules.specs.WellFormed.{ahead}
 use Rattle.audit.proofs.queues.is_ahead.Statement.{statement}
 use Rattle.audit.proofs.queues.is_ahead.Tie as tie
 
--- back to the test `queue::worse(sell, p.price, o.price)`
-abbrev Past-queue : tie.After-struct-known4 → tie.Else1
-Past-queue c = c.before.before.before.before.before
-
 worse-requires : tie.Need-worse-requires
 worse-requires c κs = search rules
 
-returns : tie.Need-returns
+returns : tie.Need-returns-then-worse
 unfolding ahead
-returns c = rw (← c.before.worse.ensures, c.if1.true)
+returns c = rw (← c.worse.ensures, c.if-worse.true)
 
-returns-2 : tie.Need-returns-2
+returns-2 : tie.Need-returns-then-o-p
 unfolding ahead
 returns-2 c =
-    rw (← c.before.before.before.before.worse.ensures, c.before.before.before.if1.false, ne_eqb _ _ c.if2.true)
+    rw (← c.worse.ensures, c.if-worse.false, ne_eqb _ _ c.if-o-p.true)
 
-returns-3 : tie.Need-returns-3
+returns-3 : tie.Need-returns
 unfolding ahead
 returns-3 c =
-    rw (← (Past-queue c).before.worse.ensures, (Past-queue c).if1.false, eq-eqb _ _ c.before.before.if2.false)
+    rw (← c.worse.ensures, c.if-worse.false, eq-eqb _ _ c.if-o-p.false)
 
-pub is-ahead-spec : {M : Type 1} → statement M
-is-ahead-spec = tie.close (tie.spec worse-requires returns returns-2 returns-3)
+pub is_ahead_spec : {M : Type 1} → statement M
+is_ahead_spec = tie.close (tie.spec worse-requires returns returns-2 returns-3)

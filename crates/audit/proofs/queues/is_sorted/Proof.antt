@@ -1,4 +1,6 @@
 -- `audit::queues::is_sorted` meets its contract. The invariant: whether the orders from i on are sorted is the answer. Assumes nothing.
+use Rattle.std.proofs.Common.{ap}
+use Rattle.std.specs.Prelude.{not}
 use mathlib.Core.Path.{◌≡◌, refl}
 use Prim.Native.Nat.{◌-◌, ◌≤◌}
 use native.Mathlib.Omega.{arith}
@@ -11,41 +13,37 @@ use Rattle.audit.proofs.SortedQueues.{sorted_end, sorted_out, sorted_turn}
 use Rattle.audit.proofs.queues.is_sorted.Statement.{statement}
 use Rattle.audit.proofs.queues.is_sorted.Tie as tie
 
-abbrev invariant-loop : tie.invariant-loop
+abbrev invariant-loop : tie.invariant-loop-i
 invariant-loop area c count sell i₀ i =
     (i ≤ count) × (sorted sell (queue_in area c count) ≡ sorted sell (drop i (queue_in area c count)))
 
-abbrev decreases-loop : tie.decreases-loop
+abbrev decreases-loop : tie.decreases-loop-i
 decreases-loop area c count sell i₀ i = count - i
 
--- back to the loop's head
-abbrev Head : tie.After-is-ahead invariant-loop decreases-loop → tie.At-loop invariant-loop decreases-loop
-Head c = c.before.before.before.before
-
-returns : tie.Need-returns invariant-loop decreases-loop
+returns : tie.Need-returns-then-not-is_ahead invariant-loop decreases-loop
 returns c =
-    sorted_out _ _ _ _ _ (Head c.before).loop.inv.1 c.before.before.before.before.loop-test.true c.before.before.before.order_at_lem.ensures
-    c.before.before.order-at2.ensures (refused c.before.is_ahead.ensures c.if1.true)
+    sorted_out _ _ _ _ _ c.loop-i.invariant.1 c.loop-i-test.true c.order_at-o.ensures
+    c.order_at-p.ensures (refused c.is_ahead.ensures (ap not c.if-not-is_ahead.true))
 
-loop-again : tie.Need-loop-preserved invariant-loop decreases-loop
+loop-again : tie.Need-loop-i-preserved invariant-loop decreases-loop
 loop-again c = (
   omega arith,
-  sorted_turn _ _ _ _ _ (Head c.before).loop.inv.1 c.before.before.before.before.loop-test.true
-      c.before.before.before.order_at_lem.ensures c.before.before.order-at2.ensures (passed c.before.is_ahead.ensures c.if1.false),
+  sorted_turn _ _ _ _ _ c.loop-i.invariant.1 c.loop-i-test.true
+      c.order_at-o.ensures c.order_at-p.ensures (passed c.is_ahead.ensures (ap not c.if-not-is_ahead.false)),
 )
 
-pub is-sorted-spec : {M : Type 1} → statement M
-is-sorted-spec = tie.close (tie.spec
+pub is_sorted_spec : {M : Type 1} → statement M
+is_sorted_spec = tie.close (tie.spec
     invariant-loop
     decreases-loop
     (λ c. (omega arith, refl))  -- loop-holds
-    (λ c. omega arith)  -- add-loop
-    (λ c κs. omega arith)  -- order-at-requires
-    (λ c. omega arith)  -- add-order-at
-    (λ c κs. omega arith)  -- order-at-requires-2
-    (λ c κs. search rules)  -- is-ahead-requires
+    (λ c. omega arith)  -- overflow_add-i
+    (λ c κs. omega arith)  -- order_at-o-requires
+    (λ c. omega arith)  -- overflow_add-i-in-loop-i
+    (λ c κs. omega arith)  -- order_at-p-requires
+    (λ c κs. search rules)  -- is_ahead-requires
     returns
-    (λ c. omega arith)  -- add-i
+    (λ c. omega arith)  -- overflow_add-i-in-loop-i-2
     (λ c. omega arith)  -- loop-less
     loop-again
-    (λ c. sorted_end _ _ _ _ _ c.before.loop.invariant.1 c.loop-test.false))  -- returns-2
+    (λ c. sorted_end _ _ _ _ _ c.loop-i.invariant.1 c.loop-i-test.false))  -- returns-2

@@ -1,4 +1,6 @@
 -- `audit::replay::have_same_holdings` meets its contract. The invariant: what the accounts from a on answer is the answer. Assumes nothing.
+use Rattle.std.proofs.Common.{ap}
+use Rattle.std.specs.Prelude.{not}
 use mathlib.Core.Path.{◌≡◌, refl}
 use Prim.Native.Nat.{◌-◌, ◌≤◌}
 use native.Mathlib.Omega.{arith}
@@ -12,58 +14,53 @@ use Rattle.audit.proofs.UsedAccounts.{account_differs, account_turn, accounts_en
 use Rattle.audit.proofs.replay.have_same_holdings.Statement.{statement}
 use Rattle.audit.proofs.replay.have_same_holdings.Tie as tie
 
-abbrev invariant-loop : tie.invariant-loop
+abbrev invariant-loop : tie.invariant-loop-a
 invariant-loop contracts accounts list others a₀ a =
     (a ≤ accounts) × (same_holdings (used contracts accounts list) (used contracts accounts others) ≡ same_holdings (drop a (used contracts accounts list)) (drop a (used contracts accounts others)))
 
-abbrev decreases-loop : tie.decreases-loop
+abbrev decreases-loop : tie.decreases-loop-a
 decreases-loop contracts accounts list others a₀ a = accounts - a
 
--- back to the loop's head
-abbrev Head : tie.After-has-same-lots invariant-loop decreases-loop → tie.At-loop invariant-loop decreases-loop
-Head c = c.before.before.before.before
-
 -- the accounts in use are among the 32
-first : (c : tie.Start invariant-loop decreases-loop) → c.args.accounts ≤ length c.args.t1
+first : (c : tie.Start invariant-loop decreases-loop) → c.args.accounts ≤ length c.args.list
 first c =
-    let e : length c.args.t1 ≡ 32 = search (rules, unmapped) in
+    let e : length c.args.list ≡ 32 = search (rules, unmapped) in
     omega (arith, c.requires.1)
 
-second : (c : tie.Start invariant-loop decreases-loop) → c.args.accounts ≤ length c.args.t2
+second : (c : tie.Start invariant-loop decreases-loop) → c.args.accounts ≤ length c.args.others
 second c =
-    let e : length c.args.t2 ≡ 32 = search (rules, unmapped) in
+    let e : length c.args.others ≡ 32 = search (rules, unmapped) in
     omega (arith, c.requires.1)
 
-returns : tie.Need-returns invariant-loop decreases-loop
+returns : tie.Need-returns-then-not-has_same_lots invariant-loop decreases-loop
 returns c =
-    let s = (Head c.before).before in
-    account_differs s.args.contracts s.args.accounts s.args.t1 s.args.t2 _ (Head c.before).loop.inv.1 c.before.before.before.before.loop-test.true (first s) (second s)
-    (refused c.before.has-same-lots.ensures c.if1.true)
+    account_differs c.args.contracts c.args.accounts c.args.list c.args.others _ c.loop-a.invariant.1 c.loop-a-test.true (first c.before.before.before.before.before.before) (second c.before.before.before.before.before.before)
+    (refused c.has_same_lots.ensures (ap not c.if-not-has_same_lots.true))
 
-loop-again : tie.Need-loop-preserved invariant-loop decreases-loop
+loop-again : tie.Need-loop-a-preserved invariant-loop decreases-loop
 loop-again c =
-    let s = (Head c.before).before in (
+    (
       omega arith,
-      account_turn s.args.contracts s.args.accounts s.args.t1 s.args.t2 _ (Head c.before).loop.inv.1 c.before.before.before.before.loop-test.true (first s) (second s)
-          (passed c.before.has-same-lots.ensures c.if1.false),
+      account_turn c.args.contracts c.args.accounts c.args.list c.args.others _ c.loop-a.invariant.1 c.loop-a-test.true (first c.before.before.before.before.before.before) (second c.before.before.before.before.before.before)
+          (passed c.has_same_lots.ensures (ap not c.if-not-has_same_lots.false)),
     )
 
-returns-2 : tie.Need-returns-2 invariant-loop decreases-loop
+returns-2 : tie.Need-returns invariant-loop decreases-loop
 returns-2 c =
-    accounts_end c.before.before.args.contracts c.before.before.args.accounts c.before.before.args.t1 c.before.before.args.t2 _ c.before.loop.invariant.1 c.loop-test.false
+    accounts_end c.args.contracts c.args.accounts c.args.list c.args.others _ c.loop-a.invariant.1 c.loop-a-test.false
 
-pub have-same-holdings-spec : {M : Type 1} → statement M
-have-same-holdings-spec = tie.close (tie.spec
+pub have_same_holdings_spec : {M : Type 1} → statement M
+have_same_holdings_spec = tie.close (tie.spec
     invariant-loop
     decreases-loop
     (λ c. (omega arith, refl))  -- loop-holds
-    (λ c. omega arith)  -- mul-has-same-lots
-    (λ c. omega arith)  -- array-copy-out-has-same-lots
-    (λ c. omega arith)  -- mul-has-same-lots-2
-    (λ c. omega arith)  -- array-copy-out-has-same-lots-2
-    (λ c κs. c.before.before.before.before.requires.0)  -- has-same-lots-requires
+    (λ c. omega arith)  -- offset_bounds-list-a
+    (λ c. omega arith)  -- bounds-list-a
+    (λ c. omega arith)  -- offset_bounds-others-a
+    (λ c. omega arith)  -- bounds-others-a
+    (λ c κs. c.requires.0)  -- has_same_lots-requires
     returns
-    (λ c. omega arith)  -- add-a
+    (λ c. omega arith)  -- overflow_add-a
     (λ c. omega arith)  -- loop-less
     loop-again
     returns-2)

@@ -7,28 +7,28 @@ use Rattle.audit.proofs.UsedAccounts.{Started, started_all, started_more, starte
 use Rattle.audit.proofs.replay.start_of_day.Statement.{statement}
 use Rattle.audit.proofs.replay.start_of_day.Tie as tie
 
-abbrev invariant-loop : tie.invariant-loop
+abbrev invariant-loop : tie.invariant-loop-i
 invariant-loop held₀ i₀ held i =
     (i ≤ 32) × Started held₀ held i
 
-abbrev decreases-loop : tie.decreases-loop
+abbrev decreases-loop : tie.decreases-loop-i
 decreases-loop held₀ i₀ held i = 32 - i
 
-loop-again : tie.Need-loop-preserved invariant-loop decreases-loop
+loop-again : tie.Need-loop-i-preserved invariant-loop decreases-loop
 loop-again c =
-    (omega arith, started_more c.before.before.before.loop.invariant.1 c.before.before.loop-test.true c.start-account.ensures)
+    (omega arith, started_more c.loop-i.invariant.1 c.loop-i-test.true c.start_account.ensures)
 
-pub start-of-day-spec : {M : Type 1} → statement M
-start-of-day-spec = tie.close (tie.spec
+pub start_of_day_spec : {M : Type 1} → statement M
+start_of_day_spec = tie.close (tie.spec
     invariant-loop
     decreases-loop
     (λ c. (omega arith, started_none (search (rules, unmapped))))  -- loop-holds
-    (λ c. omega arith)  -- mul-start-account
-    (λ c. omega arith)  -- array-copy-out-start-account
-    (λ c κs. search rules)  -- start-account-requires
-    (λ c. omega arith)  -- mul-held
-    (λ c. omega arith)  -- array-set-from-held
-    (λ c. omega arith)  -- add-i
+    (λ c. omega arith)  -- offset_bounds-held-i
+    (λ c. omega arith)  -- bounds-held-i
+    (λ c κs. search rules)  -- start_account-requires
+    (λ c. omega arith)  -- offset_bounds-held-i-in-loop-i
+    (λ c. omega arith)  -- bounds-held-i-in-loop-i
+    (λ c. omega arith)  -- overflow_add-i
     (λ c. omega arith)  -- loop-less
     loop-again
-    (λ c. started_all c.before.loop.invariant.1 c.before.loop.invariant.0 c.loop-test.false))  -- returns
+    (λ c. started_all c.loop-i.invariant.1 c.loop-i.invariant.0 c.loop-i-test.false))  -- returns

@@ -8,35 +8,34 @@ use Rattle.dayfile.proofs.bytes.contract_at.Tie as tie
 returns : tie.Need-returns
 unfolding contract_from
 returns c =
-    let b = c.before.before.before.before in
     rw (
-      b.before.before.u16-at.ensures,
-      b.before.u16-at2.ensures,
-      b.u32-at.ensures,
-      c.before.before.before.u32-at2.ensures,
-      c.before.before.u32-at3.ensures,
-      c.before.u16-at3.ensures,
-      c.u16-at4.ensures,
+      c.u16_at-multiplier.ensures,
+      c.u16_at-tick.ensures,
+      c.u32_at-reference.ensures,
+      c.u32_at-band.ensures,
+      c.u32_at-limit.ensures,
+      c.u16_at-rate.ensures,
+      c.u16_at-method.ensures,
     )
     refl
 
-pub contract-at-spec : {M : Type 1} → statement M
-contract-at-spec =
+pub contract_at_spec : {M : Type 1} → statement M
+contract_at_spec =
     tie.close
     (tie.spec
-    (λ c κs. search rules)  -- u16-at-requires
-    (λ c. search rules)  -- cast-multiplier
-    (λ c. search rules)  -- add-u16-at
-    (λ c κs. search rules)  -- u16-at-requires-2
-    (λ c. search rules)  -- cast-tick
-    (λ c. search rules)  -- add-u32-at
-    (λ c κs. search rules)  -- u32-at-requires
-    (λ c. search rules)  -- add-u32-at-2
-    (λ c κs. search rules)  -- u32-at-requires-2
-    (λ c. search rules)  -- add-u32-at-3
-    (λ c κs. search rules)  -- u32-at-requires-3
-    (λ c. search rules)  -- add-u16-at-2
-    (λ c κs. search rules)  -- u16-at-requires-3
-    (λ c. search rules)  -- add-u16-at-3
-    (λ c κs. search rules)  -- u16-at-requires-4
+    (λ c κs. search rules)  -- u16_at-multiplier-requires
+    (λ c. search rules)  -- overflow_cast-multiplier
+    (λ c. search rules)  -- overflow_add-at
+    (λ c κs. search rules)  -- u16_at-tick-requires
+    (λ c. search rules)  -- overflow_cast-tick
+    (λ c. search rules)  -- overflow_add-at-2
+    (λ c κs. search rules)  -- u32_at-reference-requires
+    (λ c. search rules)  -- overflow_add-at-3
+    (λ c κs. search rules)  -- u32_at-band-requires
+    (λ c. search rules)  -- overflow_add-at-4
+    (λ c κs. search rules)  -- u32_at-limit-requires
+    (λ c. search rules)  -- overflow_add-at-5
+    (λ c κs. search rules)  -- u16_at-rate-requires
+    (λ c. search rules)  -- overflow_add-at-6
+    (λ c κs. search rules)  -- u16_at-method-requires
     returns)

@@ -4,9 +4,9 @@ use borrow.Author.Rules.{rules}
 use Rattle.dayfile.proofs.file.commands_in.Statement.{statement}
 use Rattle.dayfile.proofs.file.commands_in.Tie as tie
 
-pub commands-in-spec : {M : Type 1} → statement M
-commands-in-spec =
+pub commands_in_spec : {M : Type 1} → statement M
+commands_in_spec =
     tie.close
     (tie.spec
-    (λ c κs. search sound_whole)  -- command-count-requires
+    (λ c κs. search sound_whole)  -- command_count-requires
     (λ c. search rules))  -- returns

@@ -4,9 +4,9 @@ use borrow.Author.Rules.{rules}
 use Rattle.dayfile.proofs.file.first_command.Statement.{statement}
 use Rattle.dayfile.proofs.file.first_command.Tie as tie
 
-pub first-command-spec : {M : Type 1} → statement M
-first-command-spec =
+pub first_command_spec : {M : Type 1} → statement M
+first_command_spec =
     tie.close
     (tie.spec
-    (λ c κs. search sound_whole)  -- head-end-requires
+    (λ c κs. search sound_whole)  -- head_end-requires
     (λ c. search rules))  -- returns

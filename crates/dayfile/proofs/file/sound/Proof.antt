@@ -9,36 +9,33 @@ use borrow.Author.Rules.{rules}
 use Rattle.dayfile.proofs.file.sound.Statement.{statement}
 use Rattle.dayfile.proofs.file.sound.Tie as tie
 
-has-sound-head : (c : tie.Else1) → head_sound c.before.before.before.args.file.now ≡ true
-has-sound-head c = sym c.before.head-sound.ensures ∙ not-false _ c.if1.false
+has-sound-head : (c : tie.Else-not-head_sound) → head_sound c.args.file.now ≡ true
+has-sound-head c = sym c.head_sound.ensures ∙ c.if-not-head_sound.false
 
-returns-2 : tie.Need-returns-2
+returns-2 : tie.Need-returns-then-commands-gt-MAX_COMMANDS
 returns-2 c =
-    let b = c.before.before in
-    let f = b.before.before.before.args.file.now in
-    rw (sound_is f, has-sound-head b, ← c.before.command-count.ensures, lt-leb _ _ c.if2.true)
+    let f = c.args.file.now in
+    rw (sound_is f, has-sound-head c.before.before, ← c.command_count-commands.ensures, lt-leb _ _ c.if-commands-gt-MAX_COMMANDS.true)
 
-add-result : tie.Need-overflow-add-result
+add-result : tie.Need-overflow_add-result
 add-result c =
-    let b = c.before.before.before in
-    let f = b.before.before.before.args.file.now in
-    omega (arith, c.head-end.ensures, command_place_lem f 0, (sound_head f (has-sound-head b)).long)
+    let f = c.args.file.now in
+    omega (arith, c.head_end-end.ensures, command_place_lem f 0, (sound_head f (has-sound-head c.before.before.before)).long)
 
-returns-3 : tie.Need-returns-3
+returns-3 : tie.Need-returns
 returns-3 c =
-    let b = c.before.before.before in
-    let n = c.before.before.command-count.ensures in
-    rw n (sym (length_ends _ (has-sound-head b) (omega (arith, n)) _ c.head-end.ensures))
+    let n = c.command_count-commands.ensures in
+    rw n (sym (length_ends _ (has-sound-head c.before.before.before) (omega (arith, n)) _ c.head_end-end.ensures))
 
-pub sound-spec : {M : Type 1} → statement M
-sound-spec =
+pub sound_spec : {M : Type 1} → statement M
+sound_spec =
     tie.close
     (tie.spec
-    (λ c κs. search rules)  -- head-sound-requires
-    (λ c. let t = c.before.head-sound in rw (sound_is _, ← t.ensures, not-true t.result c.if1.true))  -- returns
-    (λ c κs. has-sound-head c)  -- command-count-requires
+    (λ c κs. search rules)  -- head_sound-requires
+    (λ c. let t = c.head_sound in rw (sound_is _, ← t.ensures, c.if-not-head_sound.true))  -- returns-then-not-head_sound
+    (λ c κs. has-sound-head c)  -- command_count-commands-requires
     returns-2
-    (λ c κs. search has-sound-head)  -- head-end-requires
-    (λ c. search rules)  -- mul-result
+    (λ c κs. search has-sound-head)  -- head_end-end-requires
+    (λ c. search rules)  -- overflow_mul-result
     add-result
     returns-3)

@@ -6,16 +6,16 @@ use Rattle.dayfile.proofs.Counts.{as_read, ends_before, too_many}
 use Rattle.dayfile.proofs.head.count_before.Statement.{statement}
 use Rattle.dayfile.proofs.head.count_before.Tie as tie
 
-returns-3 : tie.Need-returns-3
-returns-3 c = (c.before.u32-at.ensures ∙ as_read _ _ _ (omega arith) (omega (arith, c.before.u32-at.ensures, c.if2.false)), omega arith)
+returns-3 : tie.Need-returns
+returns-3 c = (c.u32_at-count.ensures ∙ as_read _ _ _ (omega arith) (omega (arith, c.u32_at-count.ensures, c.if-most-count.false)), omega arith)
 
-pub count-before-spec : {M : Type 1} → statement M
-count-before-spec =
+pub count_before_spec : {M : Type 1} → statement M
+count_before_spec =
     tie.close
     (tie.spec
-    (λ c. (ends_before _ _ _ c.if1.true, omega arith))  -- returns
-    (λ c. search rules)  -- sub-u32-at
-    (λ c κs. search rules)  -- u32-at-requires
-    (λ c. search rules)  -- cast-count
-    (λ c. (too_many _ _ _ (omega (arith, c.before.u32-at.ensures, c.if2.true)), omega arith))  -- returns-2
+    (λ c. (ends_before _ _ _ c.if-file-end.true, omega arith))  -- returns-then-file-end
+    (λ c. search rules)  -- overflow_sub-end
+    (λ c κs. search rules)  -- u32_at-count-requires
+    (λ c. search rules)  -- overflow_cast-count
+    (λ c. (too_many _ _ _ (omega (arith, c.u32_at-count.ensures, c.if-most-count.true)), omega arith))  -- returns-then-most-count
     returns-3)

@@ -10,59 +10,55 @@ use Rattle.dayfile.specs.FileHead.{head_whole}
 use Rattle.dayfile.proofs.head.head_sound.Statement.{statement}
 use Rattle.dayfile.proofs.head.head_sound.Tie as tie
 
-is_whole : (c : tie.Else1) → head_whole c.before.before.before.args.file.now ≡ true
-is_whole c = sym c.before.head-whole.ensures ∙ not-false _ c.if1.false
+is_whole : (c : tie.Else-not-head_whole) → head_whole c.args.file.now ≡ true
+is_whole c = sym c.head_whole.ensures ∙ c.if-not-head_whole.false
 
-lies : (c : tie.Else1) → Head c.before.before.before.args.file.now
+lies : (c : tie.Else-not-head_whole) → Head c.args.file.now
 lies c = head _ (is_whole c)
 
-contracts-sound-requires : tie.Need-contracts-sound-requires
+contracts-sound-requires : tie.Need-contracts_sound-requires
 unfolding contract_place
 contracts-sound-requires c κs = let l = lies c.before in (omega arith, omega arith)
 
-returns-2 : tie.Need-returns-2
+returns-2 : tie.Need-returns-then-not-contracts_sound
 returns-2 c =
-    let b = c.before.before in
-    let t = c.before.contracts_sound in
+    let t = c.contracts_sound in
     rw (
       head_is _,
-      is_whole b.before,
-      ← b.contract_count.ensures,
+      is_whole c.before.before.before,
+      ← c.contract_count-contracts.ensures,
       ← t.ensures,
-      not-true t.result c.if2.true,
+      c.if-not-contracts_sound.true,
     )
 
-accounts-sound-requires : tie.Need-accounts-sound-requires
+accounts-sound-requires : tie.Need-accounts_sound-requires
 accounts-sound-requires c κs =
-    let b = c.before.before.before.before in
-    let l = lies b in
-    (omega arith, omega (arith, account_place_lem b.before.before.before.args.file.now 0), omega arith)
+    let l = lies c.before.before.before.before in
+    (omega arith, omega (arith, account_place_lem c.args.file.now 0), omega arith)
 
-returns-3 : tie.Need-returns-3
+returns-3 : tie.Need-returns
 returns-3 c =
-    let b = c.before.before.before in
-    let d = b.before.before in
     rw (
       head_is _,
-      is_whole d,
-      ← b.before.contract_count.ensures,
-      ← b.contracts_sound.ensures,
-      not-false b.contracts_sound.result c.before.before.if2.false,
-      ← c.before.account_count.ensures,
+      is_whole c.before.before.before.before.before,
+      ← c.contract_count-contracts.ensures,
+      ← c.contracts_sound.ensures,
+      c.if-not-contracts_sound.false,
+      ← c.account_count-accounts.ensures,
       c.accounts_sound.ensures,
     )
 
-pub head-sound-spec : {M : Type 1} → statement M
-head-sound-spec =
+pub head_sound_spec : {M : Type 1} → statement M
+head_sound_spec =
     tie.close
     (tie.spec
-    (λ c κs. search rules)  -- head-whole-requires
-    (λ c. let t = c.before.head-whole in rw (head_is _, ← t.ensures, not-true t.result c.if1.true))  -- returns
-    (λ c κs. let l = lies c in omega arith)  -- contract-count-requires
+    (λ c κs. search rules)  -- head_whole-requires
+    (λ c. let t = c.head_whole in rw (head_is _, ← t.ensures, c.if-not-head_whole.true))  -- returns-then-not-head_whole
+    (λ c κs. let l = lies c in omega arith)  -- contract_count-contracts-requires
     contracts-sound-requires
     returns-2
-    (λ c κs. let l = lies c.before.before.before in search rules)  -- account-count-requires
-    (λ c. let l = lies c.before.before.before.before in omega arith)  -- mul-accounts-sound
-    (λ c. let l = lies c.before.before.before.before in omega arith)  -- add-accounts-sound
+    (λ c κs. let l = lies c.before.before.before in search rules)  -- account_count-accounts-requires
+    (λ c. let l = lies c.before.before.before.before in omega arith)  -- overflow_mul-contracts
+    (λ c. let l = lies c.before.before.before.before in omega arith)  -- overflow_add-contracts
     accounts-sound-requires
     returns-3)

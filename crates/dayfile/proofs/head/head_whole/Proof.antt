@@ -4,18 +4,18 @@ use borrow.Author.Rules.{rules}
 use Rattle.dayfile.proofs.head.head_whole.Statement.{statement}
 use Rattle.dayfile.proofs.head.head_whole.Tie as tie
 
-pub head-whole-spec : {M : Type 1} → statement M
-head-whole-spec =
+pub head_whole_spec : {M : Type 1} → statement M
+head_whole_spec =
     tie.close
     (tie.spec
-    (λ c κs. search rules)  -- count-before-requires
-    (λ c. search no_contracts_lem)  -- returns
-    (λ c. search rules)  -- mul-end
-    (λ c. search rules)  -- add-end
-    (λ c κs. search rules)  -- count-before-requires-2
-    (λ c. search no_accounts_lem)  -- returns-2
-    (λ c. search rules)  -- mul-result
-    (λ c. search rules)  -- add-result
-    (λ c. search rules)  -- mul-result-2
-    (λ c. search rules)  -- add-result-2
+    (λ c κs. search rules)  -- count_before-contracts-requires
+    (λ c. search no_contracts_lem)  -- returns-then-contracts-eq0
+    (λ c. search rules)  -- overflow_mul-end
+    (λ c. search rules)  -- overflow_add-end
+    (λ c κs. search rules)  -- count_before-accounts-requires
+    (λ c. search no_accounts_lem)  -- returns-then-accounts-eq0
+    (λ c. search rules)  -- overflow_mul-result
+    (λ c. search rules)  -- overflow_add-result
+    (λ c. search rules)  -- overflow_mul-result-2
+    (λ c. search rules)  -- overflow_add-result-2
     (λ c. search reach_decides))  -- returns-3

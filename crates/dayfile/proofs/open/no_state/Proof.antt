@@ -3,10 +3,10 @@ use borrow.Author.Rules.{rules}
 use Rattle.dayfile.proofs.open.no_state.Statement.{statement}
 use Rattle.dayfile.proofs.open.no_state.Tie as tie
 
-pub no-state-spec : {M : Type 1} → statement M
-no-state-spec =
+pub no_state_spec : {M : Type 1} → statement M
+no_state_spec =
     tie.close
     (tie.spec
-    (λ c κs. search rules)  -- no-contract-requires
-    (λ c κs. search rules)  -- account-with-requires
-    (λ c. rw (c.before.no_contract_lem.ensures, c.account-with.ensures)))  -- returns
+    (λ c κs. search rules)  -- no_contract-contract-requires
+    (λ c κs. search rules)  -- account_with-account-requires
+    (λ c. rw (c.no_contract-contract.ensures, c.account_with-account.ensures)))  -- returns

@@ -9,88 +9,77 @@ use Rattle.dayfile.proofs.Places.{account_place_lem, balance_read, balance_most_
 use Rattle.dayfile.proofs.open.opening_accounts.Statement.{statement}
 use Rattle.dayfile.proofs.open.opening_accounts.Tie as tie
 
-abbrev invariant-loop : tie.invariant-loop
+abbrev invariant-loop : tie.invariant-loop-a
 invariant-loop file start accounts places₀ a₀ places a = (a ≤ accounts) × (places ≡ filled 32 (account_with 0 0) (opening_holder file) a)
 
-abbrev decreases-loop : tie.decreases-loop
+abbrev decreases-loop : tie.decreases-loop-a
 decreases-loop file start accounts places₀ a₀ places a = accounts - a
 
--- back to the start
-abbrev Begun : tie.After-balance-at invariant-loop decreases-loop → tie.Start invariant-loop decreases-loop
-Begun c = c.before.before.before.before.before
-
-loop-holds : tie.Need-loop-init invariant-loop decreases-loop
+loop-holds : tie.Need-loop-a-init invariant-loop decreases-loop
 loop-holds c =
-    let f = c.before.before.args.file.now in
-    (omega arith, rw c.account-with.ensures (sym (filled_none 32 (account_with 0 0) (opening_holder f))))
+    let f = c.args.file.now in
+    (omega arith, rw c.account_with-none.ensures (sym (filled_none 32 (account_with 0 0) (opening_holder f))))
 
-add-balance-at : tie.Need-overflow-add-balance-at invariant-loop decreases-loop
+add-balance-at : tie.Need-overflow_add-start invariant-loop decreases-loop
 add-balance-at c =
-    let s = c.before.before.before.before in
-    let l = sound_layout _ s.requires.0 in
-    omega (arith, account_place_lem s.args.file.now 0)
+    let l = sound_layout _ c.requires.0 in
+    omega (arith, account_place_lem c.args.file.now 0)
 
-balance-at-requires : tie.Need-balance-at-requires invariant-loop decreases-loop
+balance-at-requires : tie.Need-balance_at-balance-requires invariant-loop decreases-loop
 balance-at-requires c κs =
-    let s = c.before.before.before.before in
-    let l = sound_layout _ s.requires.0 in
-    omega (arith, account_place_lem s.args.file.now 0)
+    let l = sound_layout _ c.requires.0 in
+    omega (arith, account_place_lem c.args.file.now 0)
 
-add-maker-at : tie.Need-overflow-add-maker-at invariant-loop decreases-loop
+add-maker-at : tie.Need-overflow_add-start-in-loop-a invariant-loop decreases-loop
 add-maker-at c =
-    let s = Begun c in
-    let l = sound_layout _ s.pre.0 in
-    omega (arith, account_place_lem s.args.file.now 0)
+    let l = sound_layout _ c.requires.0 in
+    omega (arith, account_place_lem c.args.file.now 0)
 
-maker-at-requires : tie.Need-maker-at-requires invariant-loop decreases-loop
+maker-at-requires : tie.Need-maker_at-maker-requires invariant-loop decreases-loop
 maker-at-requires c κs =
-    let s = Begun c in
-    let l = sound_layout _ s.pre.0 in
-    omega (arith, account_place_lem s.args.file.now 0)
+    let l = sound_layout _ c.requires.0 in
+    omega (arith, account_place_lem c.args.file.now 0)
 
-account-with-requires-2 : tie.Need-account-with-requires-2 invariant-loop decreases-loop
+account-with-requires-2 : tie.Need-account_with-requires invariant-loop decreases-loop
 account-with-requires-2 c κs =
-    let s = Begun c.before in
-    let f = s.args.file.now in
-    let a = c.before.before.before.loop.a in
-    omega (arith, c.before.balance_at.ensures, balance_read f _ a s.pre.1, balance_most_lem f s.pre.0 a (omega arith))
+    let f = c.args.file.now in
+    let a = c.loop-a.a in
+    omega (arith, c.balance_at-balance.ensures, balance_read f _ a c.requires.1, balance_most_lem f c.requires.0 a (omega arith))
 
-loop-again : tie.Need-loop-preserved invariant-loop decreases-loop
+loop-again : tie.Need-loop-a-preserved invariant-loop decreases-loop
 loop-again c =
-    let b = c.before.before.before.before in
-    let s = b.before.before.before in
-    let l = sound_layout _ s.requires.0 in
-    let f = s.args.file.now in
-    let a = b.loop.a in
-    let balance = c.before.before.balance_at.ensures ∙ sym (balance_read f _ a s.requires.1) in
-    let maker = c.before.maker-at.ensures ∙ sym (maker_read f _ a s.requires.1) in
-    let holder = c.account-with2.ensures ∙ ap₂ account_with balance maker in
-    (omega arith, fill 32 (account_with 0 0) (opening_holder f) a (omega arith) b.loop.invariant.1 holder)
+    let l = sound_layout _ c.requires.0 in
+    let f = c.args.file.now in
+    let a = c.loop-a.a in
+    let balance = c.balance_at-balance.ensures ∙ sym (balance_read f _ a c.requires.1) in
+    let maker = c.maker_at-maker.ensures ∙ sym (maker_read f _ a c.requires.1) in
+    let holder = c.account_with.ensures ∙ ap₂ account_with balance maker in
+    (omega arith, fill 32 (account_with 0 0) (opening_holder f) a (omega arith) c.loop-a.invariant.1 holder)
 
 returns : tie.Need-returns invariant-loop decreases-loop
 unfolding opening_accounts
 returns c =
-    let e : c.before.loop.a ≡ c.before.before.before.before.args.accounts = omega arith in
-    rw (c.before.loop.invariant.1, e, c.before.before.before.before.requires.2)
+    let e : c.loop-a.a ≡ c.args.accounts = omega arith in
+    rw (c.loop-a.invariant.1, e, c.requires.2)
 
-pub opening-accounts-spec : {M : Type 1} → statement M
-opening-accounts-spec =
+pub opening_accounts_spec : {M : Type 1} → statement M
+opening_accounts_spec =
     tie.close
     (tie.spec
     invariant-loop
     decreases-loop
-    (λ c κs. omega arith)  -- account-with-requires
+    (λ c κs. omega arith)  -- account_with-none-requires
     loop-holds
-    (λ c. let l = sound_layout _ c.before.before.before.before.requires.0 in omega arith)  -- mul-balance-at
+    (λ c. let l = sound_layout _ c.requires.0 in omega arith)  -- overflow_mul-a
     add-balance-at
     balance-at-requires
-    (λ c. let l = sound_layout _ (Begun c).requires.0 in omega arith)  -- mul-maker-at
+    (λ c. let l = sound_layout _ c.requires.0 in omega arith)  -- overflow_mul-a-in-loop-a
     add-maker-at
     maker-at-requires
     account-with-requires-2
-    (λ c. let l = sound_layout _ (Begun c.before.before).pre.0 in omega arith)  -- mul-places
-    (λ c. let l = sound_layout _ (Begun c.before.before).pre.0 in omega arith)  -- array-set-from-places
-    (λ c. let l = sound_layout _ (Begun c.before.before).pre.0 in omega arith)  -- add-a
+    (λ c. let l = sound_layout _ c.requires.0 in omega arith)  -- offset_bounds-places-a
+    (λ c. let l = sound_layout _ c.requires.0 in omega arith)  -- bounds-places-a
+    (λ c. let l = sound_layout _ c.requires.0 in omega arith)  -- overflow_add-a
     (λ c. omega arith)  -- loop-less
     loop-again
     returns)

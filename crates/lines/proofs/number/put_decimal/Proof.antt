@@ -6,12 +6,12 @@ use Rattle.lines.proofs.number.put_decimal.Tie as tie
 
 returns : tie.Need-returns
 unfolding decimal
-returns c = c.before.before.put-digits.ensures
+returns c = c.put_digits.ensures
 
-pub put-decimal-spec : {M : Type 1} → statement M
-put-decimal-spec =
+pub put_decimal_spec : {M : Type 1} → statement M
+put_decimal_spec =
     tie.close
     (tie.spec
-    (λ c κs. search rules)  -- put-digits-requires
-    (λ c. search rules)  -- same-length
+    (λ c κs. search rules)  -- put_digits-requires
+    (λ c. search rules)  -- shape_of-out
     returns)

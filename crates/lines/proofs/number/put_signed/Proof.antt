@@ -6,36 +6,29 @@ use Rattle.lines.proofs.Text.{signed_below, signed_above}
 use Rattle.lines.proofs.number.put_signed.Statement.{statement}
 use Rattle.lines.proofs.number.put_signed.Tie as tie
 
-returns : tie.Need-returns
+returns : tie.Need-returns-then-x-lt0
 returns c =
-    let p = c.before.before in
-    let q = p.before.before.before.before in
-    let m = q.before.before.before in
-    let s = m.before.before in
-    let back = to_z-of_z s.ranges.x in
-    let size = rw back at m.magnitude.ensures in
-    let below = rw back at q.before.before.if1.true in
-    signed_below _ _ size below (then q.put_byte.ensures p.put-decimal.ensures)
+    let back = to_z-of_z c.ranges.x in
+    let size = rw back at c.magnitude-n.ensures in
+    let below = rw back at c.if-x-lt0.true in
+    signed_below _ _ size below (then c.put_byte-next.ensures c.put_decimal.ensures)
 
-returns-2 : tie.Need-returns-2
+returns-2 : tie.Need-returns
 returns-2 c =
-    let p = c.before.before in
-    let m = p.before.before.before in
-    let s = m.before.before in
-    let back = to_z-of_z s.ranges.x in
-    let size = rw back at m.magnitude.ensures in
-    let above = rw back at p.before.before.if1.false in
-    signed_above _ _ size above p.put-decimal2.ensures
+    let back = to_z-of_z c.ranges.x in
+    let size = rw back at c.magnitude-n.ensures in
+    let above = rw back at c.if-x-lt0.false in
+    signed_above _ _ size above c.put_decimal-2.ensures
 
-pub put-signed-spec : {M : Type 1} → statement M
-put-signed-spec =
+pub put_signed_spec : {M : Type 1} → statement M
+put_signed_spec =
     tie.close
     (tie.spec
-    (λ c κs. search rules)  -- magnitude-requires
-    (λ c κs. search rules)  -- put-byte-requires
-    (λ c κs. search rules)  -- put-decimal-requires
-    (λ c. search rules)  -- same-length
+    (λ c κs. search rules)  -- magnitude-n-requires
+    (λ c κs. search rules)  -- put_byte-next-requires
+    (λ c κs. search rules)  -- put_decimal-requires
+    (λ c. search rules)  -- shape_of-out-then-x-lt0
     returns
-    (λ c κs. search rules)  -- put-decimal-requires-2
-    (λ c. search rules)  -- same-length-2
+    (λ c κs. search rules)  -- put_decimal-requires-2
+    (λ c. search rules)  -- shape_of-out
     returns-2)
