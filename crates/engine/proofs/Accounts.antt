@@ -88,7 +88,7 @@ module _ (k n : ℕ) where
   unfolding book_trades book_trade TradesUsed
   same_room_trades [] s u = s
   same_room_trades {l = l} (t ∷ ts) s u =
-      same_room_trades ts
+      same_room_trades {l = book_trade l t} ts
       (same_room_leg t.seller t.contract true t.sellclose t.lots (same_room_leg t.buyer t.contract false t.buyclose t.lots s u.0.1.0 u.0.0) u.0.1.1 u.0.0)
       u.1
 

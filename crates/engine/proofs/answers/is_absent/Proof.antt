@@ -4,8 +4,8 @@ use borrow.Author.Tests.{eq-eqb, ne_eqb}
 use Rattle.engine.proofs.answers.is_absent.Statement.{statement}
 use Rattle.engine.proofs.answers.is_absent.Tie as tie
 
-pub is-absent-spec : {M : Type 1} → statement M
-is-absent-spec = tie.close (tie.spec
-    (λ c. rw (eq-eqb _ _ c.if1.true))  -- returns
+pub is_absent_spec : {M : Type 1} → statement M
+is_absent_spec = tie.close (tie.spec
+    (λ c. rw (eq-eqb _ _ c.if-number-eq0.true))  -- returns-then-number-eq0
     (λ c κs. search rules)  -- wide-requires
-    (λ c. rw (ne_eqb _ _ c.before.if1.false, ← c.wide.ensures)))  -- returns-2
+    (λ c. rw (ne_eqb _ _ c.if-number-eq0.false, ← c.wide.ensures)))  -- returns-2

@@ -5,13 +5,13 @@ use Rattle.engine.proofs.Tests.{ltb_not}
 use Rattle.engine.proofs.payments.amount_refused.Statement.{statement}
 use Rattle.engine.proofs.payments.amount_refused.Tie as tie
 
-returns : tie.Need-returns
+returns : tie.Need-returns-then-amount-lt1
 unfolding amount_refused
-returns c = simp (lt-leb 1 c.before.args.amount c.if1.true)
+returns c = simp (lt-leb 1 c.args.amount c.if-amount-lt1.true)
 
-returns-2 : tie.Need-returns-2
+returns-2 : tie.Need-returns
 unfolding amount_refused
-returns-2 c = rw (le-leb 1 c.before.args.amount c.if1.false) (ltb_not c.before.args.amount 1_000_000_000_000_000)
+returns-2 c = rw (le-leb 1 c.args.amount c.if-amount-lt1.false) (ltb_not c.args.amount 1_000_000_000_000_000)
 
-pub amount-refused-spec : {M : Type 1} → statement M
-amount-refused-spec = tie.close (tie.spec returns returns-2)
+pub amount_refused_spec : {M : Type 1} → statement M
+amount_refused_spec = tie.close (tie.spec returns returns-2)

@@ -7,7 +7,7 @@ use Rattle.engine.proofs.payments.paid.Statement.{statement}
 use Rattle.engine.proofs.payments.paid.Tie as tie
 
 returns : tie.Need-returns
-returns c = c.accepted.ensures ∙ rw (to_z-of_z {w = w64} c.before.ranges.balance)
+returns c = c.accepted.ensures ∙ rw (to_z-of_z {w = w64} c.ranges.balance)
 
-pub paid-spec : {M : Type 1} → statement M
-paid-spec = tie.close (tie.spec (λ c κs. search rules) returns)
+pub paid_spec : {M : Type 1} → statement M
+paid_spec = tie.close (tie.spec (λ c κs. search rules) returns)

@@ -1,11 +1,12 @@
 -- `removal::is_refused` meets its contract: continuous or auction, no trading, any other state. Assumes nothing.
 use mathlib.Core.Logic.{⊎_elim}
+use Rattle.laws.specs.Numbers.{eq-eqb, ne_eqb}
 use Rattle.engine.proofs.Removals.{in_continuous, in_auction_lem, in_no_trading, in_any_other}
 use Rattle.engine.proofs.removal.is_refused.Statement.{statement}
 use Rattle.engine.proofs.removal.is_refused.Tie as tie
 
-pub is-refused-spec : {M : Type 1} → statement M
-is-refused-spec = tie.close (tie.spec
-    (λ c. ⊎_elim (λ came. in_continuous _ _ came.taken) (λ came. in_auction_lem _ _ came.1.taken) c.if1.branch)  -- returns
-    (λ c. in_no_trading _ _ c.if3.true)  -- returns-2
-    (λ c. in_any_other _ _ c.before.before.if1.false c.if3.false c.before.if2.false))  -- returns-3
+pub is_refused_spec : {M : Type 1} → statement M
+is_refused_spec = tie.close (tie.spec
+    (λ c. ⊎_elim (λ came. in_continuous _ _ came) (λ came. in_auction_lem c.args.terms _ (eq-eqb _ _ came.1)) c.then-phase-eq-CONTINUOUS.either)  -- returns-then-phase-eq-CONTINUOUS
+    (λ c. in_no_trading _ _ c.if-phase-eq-NO_TRADING.true)  -- returns-then-phase-eq-NO_TRADING
+    (λ c. in_any_other _ _ c.if-phase-eq-CONTINUOUS.false c.if-phase-eq-NO_TRADING.false (ne_eqb _ _ c.if-phase-eq-AUCTION.false)))  -- returns-3

@@ -11,90 +11,67 @@ use Rattle.engine.proofs.Removals.{account_low, contract_low, contract_fits, bid
 use Rattle.engine.proofs.removal.pull.Statement.{statement}
 use Rattle.engine.proofs.removal.pull.Tie as tie
 
-abbrev start : tie.After-refusal → tie.Start
-start c = c.before.before.before.before
-
 -- ---- what the tests have shown
 
-none : (c : tie.Else1) → let begun = start c.before in
-    first_of (pull_refusals (exchange_of (memory begun.args.state begun.args.buys.now begun.args.sells.now begun.args.trades.now))
-    begun.args.account begun.args.contract begun.args.operator) ≡ 0
-none c = sym (c.before.refusal.ensures (start c.before).requires.declared _ _ _) ∙ c.if1.false
+none : (c : tie.Else-code-ne0) → first_of (pull_refusals (exchange_of (memory c.args.state c.args.buys.now c.args.sells.now c.args.trades.now))
+    c.args.account c.args.contract c.args.operator) ≡ 0
+none c = sym (c.refusal-code.ensures c.requires.declared _ _ _) ∙ c.if-code-ne0.false
 
-place : (c : tie.After-place-of) → c.place_of.result < max_contracts
-place c = contract_fits (start c.before.before).requires _ _ _ (none c.before) c.place_of.ensures
+place : (c : tie.After-place_of-c) → c.place_of-c.result < max_contracts
+place c = contract_fits c.requires _ _ _ (none c.before) c.place_of-c.ensures
 
 -- ---- the needs
 
-returns : tie.Need-returns
+returns : tie.Need-returns-then-code-ne0
 returns c =
-    let tested = c.before.before in
-    pull_refused (start tested).requires _ _ _ (tested.refusal.ensures (start tested).requires.declared _ _ _) c.before.if1.true c.refused.ensures
+    pull_refused c.requires _ _ _ (c.refusal-code.ensures c.requires.declared _ _ _) c.if-code-ne0.true c.refused.ensures
 
-pull-requires : tie.Need-pull-requires
+pull-requires : tie.Need-pull-bid-requires
 pull-requires c κs =
-    let stands = c.before in
-    let named = stands.before.before in
-    let pre = (start named.before.before).requires in (
-      bids_few pre _ _ _ (none named.before) named.place_of.ensures stands.listed_at.ensures,
-      bids_room pre _ _ _ (none named.before)
-          named.place_of.ensures stands.listed_at.ensures,
+    let pre = c.requires in (
+      bids_few pre _ _ _ (none c.before.before.before.before) c.place_of-c.ensures c.listed_at-listed.ensures,
+      bids_room pre _ _ _ (none c.before.before.before.before)
+          c.place_of-c.ensures c.listed_at-listed.ensures,
     )
 
-pull-requires-2 : tie.Need-pull-requires-2
+pull-requires-2 : tie.Need-pull-offer-requires
 pull-requires-2 c κs =
-    let bid = c.before.before.before in
-    let stands = bid.before.before in
-    let named = stands.before.before in
-    let pre = (start named.before.before).requires in (
-      offers_few pre _ _ _ (none named.before) named.place_of.ensures stands.listed_at.ensures,
-      offers_room pre _ _ _ (none named.before)
-          named.place_of.ensures stands.listed_at.ensures,
+    let pre = c.requires in (
+      offers_few pre _ _ _ (none c.before.before.before.before.before.before.before.before) c.place_of-c.ensures c.listed_at-listed.ensures,
+      offers_room pre _ _ _ (none c.before.before.before.before.before.before.before.before)
+          c.place_of-c.ensures c.listed_at-listed.ensures,
     )
 
-add-lots : tie.Need-overflow-add-lots
+add-lots : tie.Need-overflow_add-lots
 add-lots c =
-    let offer = c.before.before.before.before in
-    let bid = offer.before.before.before.before in
-    let stands = bid.before.before in
-    let named = stands.before.before in
     omega (
       arith,
-      pulled_few (start named.before.before).requires _ _ _ (none named.before) named.place_of.ensures
-          stands.before.place-word.ensures stands.listed_at.ensures bid.pull.ensures offer.pull2.ensures,
+      pulled_few c.requires _ _ _ (none c.before.before.before.before.before.before.before.before.before.before.before.before.before) c.place_of-c.ensures
+          c.place_word-a.ensures c.listed_at-listed.ensures c.pull-bid.ensures c.pull-offer.ensures,
     )
 
-cast-lots : tie.Need-overflow-cast-lots
+cast-lots : tie.Need-overflow_cast-lots
 cast-lots c =
-    let offer = c.before.before.before.before in
-    let bid = offer.before.before.before.before in
-    let stands = bid.before.before in
-    let named = stands.before.before in
     omega (
       arith,
-      pulled_few (start named.before.before).requires _ _ _ (none named.before) named.place_of.ensures
-          stands.before.place-word.ensures stands.listed_at.ensures bid.pull.ensures offer.pull2.ensures,
+      pulled_few c.requires _ _ _ (none c.before.before.before.before.before.before.before.before.before.before.before.before.before) c.place_of-c.ensures
+          c.place_word-a.ensures c.listed_at-listed.ensures c.pull-bid.ensures c.pull-offer.ensures,
     )
 
-returns-2 : tie.Need-returns-2
+returns-2 : tie.Need-returns
 returns-2 c =
-    let sum = c.before.before in
-    let offer = sum.before.before.before.before in
-    let bid = offer.before.before.before.before in
-    let stands = bid.before.before in
-    let named = stands.before.before in
-    pull_accepted (start named.before.before).requires _ _ _ (none named.before) named.place_of.ensures stands.before.place-word.ensures
-    stands.listed_at.ensures bid.pull.ensures offer.pull2.ensures
-    c.before.with-orders.ensures refl c.accepted.ensures
+    pull_accepted c.requires _ _ _ (none c.before.before.before.before.before.before.before.before.before.before.before.before.before.before.before) c.place_of-c.ensures c.place_word-a.ensures
+    c.listed_at-listed.ensures c.pull-bid.ensures c.pull-offer.ensures
+    c.with_orders.ensures refl c.accepted.ensures
 
-pub pull-spec : {M : Type 1} → statement M
-pull-spec = tie.close (tie.spec
-    (λ c κs. let pre = c.before.before.before.requires in ((formed pre).contracts_high, (formed pre).accounts_high))  -- refusal-requires
+pub pull_spec : {M : Type 1} → statement M
+pull_spec = tie.close (tie.spec
+    (λ c κs. let pre = c.requires in ((formed pre).contracts_high, (formed pre).accounts_high))  -- refusal-code-requires
     (λ c κs. search rules)
     returns
-    (λ c κs. contract_low (start c.before).requires _ _ _ (none c))  -- place-of-requires
-    (λ c κs. account_low (start c.before.before).requires _ _ _ (none c.before))  -- place-word-requires
-    (λ c κs. place c.before)  -- listed-at-requires
+    (λ c κs. contract_low c.requires _ _ _ (none c))  -- place_of-c-requires
+    (λ c κs. account_low c.requires _ _ _ (none c.before))  -- place_word-a-requires
+    (λ c κs. place c.before)  -- listed_at-listed-requires
     pull-requires
     pull-requires-2
     add-lots

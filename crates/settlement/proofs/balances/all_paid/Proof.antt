@@ -10,98 +10,88 @@ use Rattle.settlement.proofs.Totals.{DaySummed, day_summed}
 use Rattle.settlement.proofs.balances.all_paid.Statement.{statement}
 use Rattle.settlement.proofs.balances.all_paid.Tie as tie
 
-abbrev invariant-loop : tie.invariant-loop
+abbrev invariant-loop : tie.invariant-loop-a
 invariant-loop trades state closed closes opened opens used priced accounts₀ closing₀ holding₀ a₀ accounts closing holding a =
     DaySummed state trades priced.prices closed closes opened opens used × Paying state trades priced.prices accounts closing holding a
 
-abbrev decreases-loop : tie.decreases-loop
+abbrev decreases-loop : tie.decreases-loop-a
 decreases-loop trades state closed closes opened opens used priced accounts₀ closing₀ holding₀ a₀ accounts closing holding a =
     state.accountcount - a
 
-put-all-due-requires : tie.Need-put-all-due-requires invariant-loop decreases-loop
+put-all-due-requires : tie.Need-put_all_due-requires invariant-loop decreases-loop
 put-all-due-requires c κs =
-    let opened = c.before.before.before.before in
-    let closed = opened.before.before.before.before in
-    let start = closed.before.before.before.before in
-    (start.before.requires.accounts, closed.before.add-up.auto.1.1.1.0, refl)
+    (c.requires.accounts, c.add_up.auto.1.1.1.0, refl)
 
 -- the sums are the day's, in rooms of one word for each slot
-loop-holds : tie.Need-loop-init invariant-loop decreases-loop
+loop-holds : tie.Need-loop-a-init invariant-loop decreases-loop
 loop-holds c =
-    let taken = c.before.before.before.before in
-    let due = taken.before.before.before.before in
-    let before-due = due.before in
-    let opened = before-due.before.before.before.before in
-    let before-opened = opened.before in
-    let closed = before-opened.before.before.before.before in (
-      day_summed closed.before.before.before.before.requires
-          (record { closing = closed.add-up.ensures; opening = opened.add-up2.ensures; due = due.put-all-due.ensures; taken = taken.take_first.ensures.0 })
+    (
+      day_summed c.requires
+          (record { closing = c.add_up.ensures; opening = c.add_up-2.ensures; c.before.before.before.before.before.before.before.before = c.put_all_due.ensures; c.before.before.before.before = c.take_first.ensures.0 })
           (record {
-            closed_room = closed.add-up.auto.1.1.1.0;
-            closes_room = closed.add-up.auto.1.1.1.1.0;
-            opened_room = opened.add-up2.auto.1.1.1.0;
-            opens_room = opened.add-up2.auto.1.1.1.1.0;
-            used_room = taken.take_first.auto.1.1.1.0;
+            closed_room = c.add_up.auto.1.1.1.0;
+            closes_room = c.add_up.auto.1.1.1.1.0;
+            opened_room = c.add_up-2.auto.1.1.1.0;
+            opens_room = c.add_up-2.auto.1.1.1.1.0;
+            used_room = c.take_first.auto.1.1.1.0;
           }),
       paying_none _ _ _,
     )
 
 -- the turn in which an account's total was asked for
-abbrev turn : tie.After-used3 invariant-loop decreases-loop → tie.In-loop invariant-loop decreases-loop
-turn c = let account = c.before.before.before.before in account.before.before
+abbrev turn : tie.After-used-in-loop-a-1 invariant-loop decreases-loop → tie.In-loop-a invariant-loop decreases-loop
+turn c = c.before.before.before.before.before.before
 
 -- the account is one of 32
-in_use : (c : tie.After-paid invariant-loop decreases-loop) → (turn c.before.before.before.before).before.loop.a < max_accounts
-in_use c = let now = turn c.before.before.before.before in omega (arith, now.before.loop.inv.0.payable.accounts, now.loop-test.taken)
+in_use : (c : tie.After-paid invariant-loop decreases-loop) → c.loop-a.a < max_accounts
+in_use c = omega (arith, c.loop-a.invariant.0.payable.accounts, c.loop-a-test.true)
 
 paid-requires : tie.Need-paid-requires invariant-loop decreases-loop
 paid-requires c κs =
-    let now = turn c.before.before.before in
-    let inv = now.before.loop.inv in
-    let gained = inv.0.total _ now.loop-test.taken c.before.before.total.ensures in
+    let inv = c.loop-a.invariant in
+    let gained = inv.0.total _ c.loop-a-test.true c.total-p.ensures in
     let pre = inv.0.payable in
-    (pre.contracts, balance_at pre now.loop-test.taken, closing_reach pre inv.1 gained, holding_reach pre inv.1 gained)
+    (pre.contracts, balance_at pre c.loop-a-test.true, closing_reach pre inv.1 gained, holding_reach pre inv.1 gained)
 
-loop-again : tie.Need-loop-preserved invariant-loop decreases-loop
+loop-again : tie.Need-loop-a-preserved invariant-loop decreases-loop
 loop-again c =
-    let now = turn c.before.before.before.before in
-    let inv = now.before.loop.inv in
-    let gained = inv.0.total _ now.loop-test.taken c.before.before.before.total.ensures in
-    (inv.0, paying_more inv.0.payable inv.1 gained now.loop-test.taken c.paid.ensures)
+    let inv = c.loop-a.invariant in
+    let gained = inv.0.total _ c.loop-a-test.true c.total-p.ensures in
+    (inv.0, paying_more inv.0.payable inv.1 gained c.loop-a-test.true c.paid.ensures)
 
-pub all-paid-spec : {M : Type 1} → statement M
-all-paid-spec = tie.close (tie.spec
+pub all_paid_spec : {M : Type 1} → statement M
+all_paid_spec = tie.close (tie.spec
     invariant-loop
     decreases-loop
     (λ c. search rules)
     (λ c. search rules)
-    (λ c κs. (c.before.before.before.requires.placed, refl, refl))  -- add-up-requires
+    (λ c κs. (c.requires.placed, refl, refl))  -- add_up-requires
     (λ c. search rules)
     (λ c. search rules)
-    (λ c κs. (search rules, refl, refl))  -- add-up-requires-2
+    (λ c κs. (search rules, refl, refl))  -- add_up-requires-2
     (λ c. search rules)
     (λ c. search rules)
     put-all-due-requires
     (λ c. search rules)
     (λ c. search rules)
-    (λ c κs. (search rules, c.before.before.before.put-all-due.auto.1.1.0, refl))  -- take-first-requires
+    (λ c κs. (search rules, c.put_all_due.auto.1.1.0, refl))  -- take_first-requires
     loop-holds
-    (λ c. omega (arith, c.before.loop.invariant.0.payable.accounts))  -- mul-account
-    (λ c. omega (arith, c.before.loop.invariant.0.payable.accounts))  -- element-copy-out-account
+    (λ c. omega (arith, c.loop-a.invariant.0.payable.accounts))  -- offset_bounds-state-a
+    (λ c. omega (arith, c.loop-a.invariant.0.payable.accounts))  -- bounds-state-a
     (λ c. search rules)
     (λ c. search rules)
     (λ c. search rules)
     (λ c. search rules)
     (λ c. search rules)
-    (λ c κs. let now = turn c in now.before.loop.inv.0.totallable _ now.loop-test.taken)  -- total-requires
+    (λ c κs. c.loop-a.invariant.0.totallable _ c.loop-a-test.true)  -- total-p-requires
     paid-requires
-    (λ c. omega (arith, in_use c))  -- mul-accounts
-    (λ c. omega (arith, in_use c))  -- array-set-from-accounts
-    (λ c. omega (arith, in_use c))  -- mul-closing
-    (λ c. omega (arith, in_use c))  -- array-set-from-closing
-    (λ c. omega (arith, in_use c))  -- mul-holding
-    (λ c. omega (arith, in_use c))  -- array-set-from-holding
-    (λ c. omega (arith, in_use c))  -- add-a
-    (λ c. let now = turn c.before.before.before.before in omega (arith, now.loop-test.taken))  -- loop-less
+    (λ c. omega (arith, in_use c))  -- offset_bounds-accounts-a
+    (λ c. omega (arith, in_use c))  -- bounds-accounts-a
+    (λ c. omega (arith, in_use c))  -- offset_bounds-closing-a
+    (λ c. omega (arith, in_use c))  -- bounds-closing-a
+    (λ c. omega (arith, in_use c))  -- offset_bounds-holding-a
+    (λ c. omega (arith, in_use c))  -- bounds-holding-a
+    (λ c. omega (arith, in_use c))  -- overflow_add-a
+    (λ c. omega (arith, c.loop-a-test.true))  -- loop-less
     loop-again
-    (λ c. paying_done c.before.loop.invariant.0.payable c.before.loop.invariant.1 c.loop-test.false))  -- returns
+    (λ c. paying_done c.loop-a.invariant.0.payable c.loop-a.invariant.1 c.loop-a-test.false))  -- returns

@@ -10,8 +10,8 @@ use Rattle.settlement.proofs.balances.multiplied.Tie as tie
 returns : tie.Need-returns
 returns c = mul_back {n = 1_000} c.args.multiplier c.requires.0 c.requires.1 (omega arith) (omega arith) ∙ *ℤ_comm c.args.profit (pos c.args.multiplier)
 
-pub multiplied-spec : {M : Type 1} → statement M
-multiplied-spec = tie.close (tie.spec
-    (λ c. search rules)  -- cast-result
-    (λ c. mul_fits {n = 1_000} c.args.multiplier c.requires.0 c.requires.1 (omega arith) (omega arith))  -- mul-result
+pub multiplied_spec : {M : Type 1} → statement M
+multiplied_spec = tie.close (tie.spec
+    (λ c. search rules)  -- overflow_cast-result
+    (λ c. mul_fits {n = 1_000} c.args.multiplier c.requires.0 c.requires.1 (omega arith) (omega arith))  -- overflow_mul-result
     returns)

@@ -6,13 +6,13 @@ use Rattle.settlement.proofs.balances.paid.Tie as tie
 
 returns : tie.Need-returns
 returns c =
-    carried_paid c.before.before.before.args.account _ c.before.before.before.args.contracts _ c.before.before.before.args.closing
-    c.before.before.before.args.holding c.before.before.before.requires.1 c.before.before.before.requires.2 c.before.before.before.requires.3
-    (record { sfits = c.before.with-profit.type-inv })
-    c.before.with-profit.ensures c.carried-over.ensures
+    carried_paid c.args.account _ c.args.contracts _ c.args.closing
+    c.args.holding c.requires.1 c.requires.2 c.requires.3
+    (record { sfits = c.with_profit-balance.type_inv })
+    c.with_profit-balance.ensures c.carried_over-next.ensures
 
-pub paid-spec : {M : Type 1} → statement M
-paid-spec = tie.close (tie.spec
-    (λ c κs. search rules)  -- with-profit-requires
-    (λ c κs. search rules)  -- carried-over-requires
+pub paid_spec : {M : Type 1} → statement M
+paid_spec = tie.close (tie.spec
+    (λ c κs. search rules)  -- with_profit-balance-requires
+    (λ c κs. search rules)  -- carried_over-next-requires
     returns)

@@ -8,67 +8,60 @@ use Rattle.settlement.proofs.Totals.{Totalling, totalling_none, closing_bits, ho
 use Rattle.settlement.proofs.balances.total.Statement.{statement}
 use Rattle.settlement.proofs.balances.total.Tie as tie
 
-abbrev invariant-loop : tie.invariant-loop
+abbrev invariant-loop : tie.invariant-loop-c
 invariant-loop closed closes opened opens used a holder contracts prices count closing₀ holding₀ c₀ closing holding c =
     Totallable holder (record { contracts = contracts; prices = prices; count = count }) closed closes opened opens used a
     × Totalling holder (record { contracts = contracts; prices = prices; count = count }) closed closes opened opens used a closing holding c
 
-abbrev decreases-loop : tie.decreases-loop
+abbrev decreases-loop : tie.decreases-loop-c
 decreases-loop closed closes opened opens used a holder contracts prices count closing₀ holding₀ c₀ closing holding c = count - c
 
 -- the turn in which a contract's profit was found
-abbrev turn : tie.After-profit-at invariant-loop decreases-loop → tie.In-loop invariant-loop decreases-loop
+abbrev turn : tie.After-profit_at-p invariant-loop decreases-loop → tie.In-loop-c invariant-loop decreases-loop
 turn c = c.before.before.before
 
-multiplied-requires : tie.Need-multiplied-requires invariant-loop decreases-loop
+multiplied-requires : tie.Need-multiplied-closing-requires invariant-loop decreases-loop
 multiplied-requires c κs =
-    let now = turn c.before in
-    let inv = now.before.loop.inv in
-    (closing_bits inv.0 inv.1 now.loop-test.taken c.before.profit-at.ensures, inv.0.multiplier _ now.loop-test.taken)
+    let inv = c.loop-c.invariant in
+    (closing_bits inv.0 inv.1 c.loop-c-test.true c.profit_at-p.ensures, inv.0.multiplier _ c.loop-c-test.true)
 
-add-closing : tie.Need-overflow-add-closing invariant-loop decreases-loop
+add-closing : tie.Need-overflow_add-closing invariant-loop decreases-loop
 add-closing c =
-    let now = turn c.before.before in
-    let inv = now.before.loop.inv in
-    closing_fits inv.0 inv.1 now.loop-test.taken c.before.before.profit-at.ensures c.multiplied.ensures
+    let inv = c.loop-c.invariant in
+    closing_fits inv.0 inv.1 c.loop-c-test.true c.profit_at-p.ensures c.multiplied-closing.ensures
 
-multiplied-requires-2 : tie.Need-multiplied-requires-2 invariant-loop decreases-loop
+multiplied-requires-2 : tie.Need-multiplied-holding-requires invariant-loop decreases-loop
 multiplied-requires-2 c κs =
-    let now = turn c.before.before.before in
-    let inv = now.before.loop.inv in
-    (holding_bits inv.0 inv.1 now.loop-test.taken c.before.before.before.profit-at.ensures, inv.0.multiplier _ now.loop-test.taken)
+    let inv = c.loop-c.invariant in
+    (holding_bits inv.0 inv.1 c.loop-c-test.true c.profit_at-p.ensures, inv.0.multiplier _ c.loop-c-test.true)
 
-add-holding : tie.Need-overflow-add-holding invariant-loop decreases-loop
+add-holding : tie.Need-overflow_add-holding invariant-loop decreases-loop
 add-holding c =
-    let gained = c.before.before.before.before in
-    let now = turn gained in
-    let inv = now.before.loop.inv in
-    holding_fits inv.0 inv.1 now.loop-test.taken gained.profit-at.ensures c.before.before.multiplied.ensures c.multiplied2.ensures
+    let inv = c.loop-c.invariant in
+    holding_fits inv.0 inv.1 c.loop-c-test.true c.profit_at-p.ensures c.multiplied-closing.ensures c.multiplied-holding.ensures
 
-loop-again : tie.Need-loop-preserved invariant-loop decreases-loop
+loop-again : tie.Need-loop-c-preserved invariant-loop decreases-loop
 loop-again c =
-    let gained = c.before.before.before.before in
-    let now = turn gained in
-    let inv = now.before.loop.inv in
-    (inv.0, totalling_more inv.0 inv.1 now.loop-test.taken gained.profit-at.ensures c.before.before.multiplied.ensures c.multiplied2.ensures)
+    let inv = c.loop-c.invariant in
+    (inv.0, totalling_more inv.0 inv.1 c.loop-c-test.true c.profit_at-p.ensures c.multiplied-closing.ensures c.multiplied-holding.ensures)
 
-pub total-spec : {M : Type 1} → statement M
-total-spec = tie.close (tie.spec
+pub total_spec : {M : Type 1} → statement M
+total_spec = tie.close (tie.spec
     invariant-loop
     decreases-loop
     (λ c. (search rules, totalling_none _ _ _ _ _ _ _ _))  -- loop-holds
-    (λ c. omega arith)  -- mul-contract
-    (λ c. omega arith)  -- array-copy-out-contract
-    (λ c. omega arith)  -- mul-h
-    (λ c. omega arith)  -- element-copy-out-h
-    (λ c. omega arith)  -- mul-due
-    (λ c. omega arith)  -- array-read-due
-    (λ c κs. c.before.before.before.loop.invariant.0.each _ c.before.before.loop-test.true)  -- profit-at-requires
+    (λ c. omega arith)  -- offset_bounds-contracts-c
+    (λ c. omega arith)  -- bounds-contracts-c
+    (λ c. omega arith)  -- offset_bounds-holder-c
+    (λ c. omega arith)  -- bounds-holder-c
+    (λ c. omega arith)  -- offset_bounds-prices-c
+    (λ c. omega arith)  -- bounds-prices-c
+    (λ c κs. c.loop-c.invariant.0.each _ c.loop-c-test.true)  -- profit_at-p-requires
     multiplied-requires
     add-closing
     multiplied-requires-2
     add-holding
-    (λ c. omega arith)  -- add-c
+    (λ c. omega arith)  -- overflow_add-c
     (λ c. omega arith)  -- loop-less
     loop-again
-    (λ c. totalling_done c.before.loop.invariant.0 c.before.loop.invariant.1 c.loop-test.false))  -- returns
+    (λ c. totalling_done c.loop-c.invariant.0 c.loop-c.invariant.1 c.loop-c-test.false))  -- returns

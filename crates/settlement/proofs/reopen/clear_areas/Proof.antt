@@ -6,32 +6,23 @@ use borrow.Author.Rules.{rules}
 use Rattle.settlement.proofs.reopen.clear_areas.Statement.{statement}
 use Rattle.settlement.proofs.reopen.clear_areas.Tie as tie
 
--- back to the start
-abbrev Begun : tie.After-clear-arg → tie.Start
-Begun c = c.before.before.before.before.before.before.before.before.before.before.before.before.before.before.before
-
--- back to the call of `clear-queues2`
-abbrev Clear-queues2 : tie.After-clear → tie.After-clear-queues2
-Clear-queues2 c = c.before.before.before.before
-
 returns : tie.Need-returns
 returns c =
-    let clear-queues2 = Clear-queues2 c.before.before in
     record {
-      buys = clear-queues2.before.before.before.before.clear-queues.ensures;
-      sells = clear-queues2.clear-queues2.ensures;
-      trades = trades_cleared _ _ _ (Begun c.before.before.before).requires.trades c.before.before.clear.ensures;
+      buys = c.clear_queues.ensures;
+      sells = c.clear_queues-2.ensures;
+      trades = trades_cleared _ _ _ c.requires.trades c.clear.ensures;
     }
 
-pub clear-areas-spec : {M : Type 1} → statement M
-clear-areas-spec = tie.close (tie.spec
-    (λ c. search rules)  -- mul-e
-    (λ c κs. search rules)  -- clear-queues-requires
-    (λ c κs. search rules)  -- clear-queues-requires-2
-    (λ c. search rules)  -- slice-relend-prefix-clear
-    (λ c. sym (length-take-le _ _ (Begun c).requires.trades))  -- slice-aggregate-clear
+pub clear_areas_spec : {M : Type 1} → statement M
+clear_areas_spec = tie.close (tie.spec
+    (λ c. search rules)  -- overflow_mul-e
+    (λ c κs. search rules)  -- clear_queues-requires
+    (λ c κs. search rules)  -- clear_queues-requires-2
+    (λ c. search rules)  -- slice_bounds-clear-end
+    (λ c. sym (length-take-le _ _ c.requires.trades))  -- slice_bounds-clear-end-2
     (λ c κs. search rules)  -- clear-requires
-    (λ c. search rules)  -- same-length
-    (λ c. search rules)  -- same-length-2
-    (λ c. search rules)  -- same-length-3
+    (λ c. search rules)  -- shape_of-buys
+    (λ c. search rules)  -- shape_of-sells
+    (λ c. search rules)  -- shape_of-trades
     returns)

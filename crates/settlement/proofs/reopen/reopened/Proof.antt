@@ -8,5 +8,5 @@ returns : tie.Need-returns
 unfolding settled_contract
 returns c = search rules
 
-pub reopened-spec : {M : Type 1} → statement M
-reopened-spec = tie.close (tie.spec returns)
+pub reopened_spec : {M : Type 1} → statement M
+reopened_spec = tie.close (tie.spec returns)

@@ -7,40 +7,32 @@ use Rattle.settlement.proofs.Report.{PricesSoFar, price_in_use, prices_done}
 use Rattle.settlement.proofs.settle.prices_due.Statement.{statement}
 use Rattle.settlement.proofs.settle.prices_due.Tie as tie
 
-abbrev invariant-loop : tie.invariant-loop
+abbrev invariant-loop : tie.invariant-loop-c
 invariant-loop buys sells trades state contracts count prices₀ c₀ prices c = PricesSoFar (memory state buys sells trades) c prices
 
-abbrev decreases-loop : tie.decreases-loop
+abbrev decreases-loop : tie.decreases-loop-c
 decreases-loop buys sells trades state contracts count prices₀ c₀ prices c = contracts - c
 
--- back to the start
-abbrev Begun : tie.In-loop invariant-loop decreases-loop → tie.Start invariant-loop decreases-loop
-Begun c = c.before.before.before.before.before
-
--- back to the turn's begin
-abbrev Turn : tie.After-settlement-price invariant-loop decreases-loop → tie.In-loop invariant-loop decreases-loop
-Turn c = c.before.before.before.before
-
-loop-again : tie.Need-loop-preserved invariant-loop decreases-loop
+loop-again : tie.Need-loop-c-preserved invariant-loop decreases-loop
 loop-again c =
-    writing_more _ _ _ (Begun (Turn c)).pre.few _ _ _ c.before.before.before.before.loop-test.true
-    (price_in_use _ _ c.before.before.before.before.loop-test.true _ c.settlement-price.ensures) (Turn c).before.loop.invariant
+    writing_more _ _ _ c.requires.few _ _ _ c.loop-c-test.true
+    (price_in_use _ _ c.loop-c-test.true _ c.settlement_price.ensures) c.loop-c.invariant
 
-pub prices-due-spec : {M : Type 1} → statement M
-prices-due-spec = tie.close (tie.spec
+pub prices_due_spec : {M : Type 1} → statement M
+prices_due_spec = tie.close (tie.spec
     invariant-loop
     decreases-loop
     (λ c. writing_none _ _ _)  -- loop-holds
-    (λ c. omega (arith, (Begun c).requires.few))  -- mul-contract
-    (λ c. omega (arith, (Begun c).requires.few))  -- element-copy-out-contract
-    (λ c. omega (arith, (Begun c.before).pre.few))  -- mul-buycount
-    (λ c. omega (arith, (Begun c.before).pre.few))  -- element-copy-out-buycount
-    (λ c. omega (arith, (Begun c.before.before).pre.few))  -- mul-sellcount
-    (λ c. omega (arith, (Begun c.before.before).pre.few))  -- element-copy-out-sellcount
-    (λ c κs. (Begun c.before.before.before).pre.each _ c.before.before.before.loop-test.true)  -- settlement-price-requires
-    (λ c. omega (arith, (Begun (Turn c)).pre.few))  -- mul-prices
-    (λ c. omega (arith, (Begun (Turn c)).pre.few))  -- array-write-prices
-    (λ c. omega (arith, (Begun (Turn c)).pre.few))  -- add-c
+    (λ c. omega (arith, c.requires.few))  -- offset_bounds-state-c
+    (λ c. omega (arith, c.requires.few))  -- bounds-state-c
+    (λ c. omega (arith, c.requires.few))  -- offset_bounds-state-c-in-loop-c
+    (λ c. omega (arith, c.requires.few))  -- bounds-state-c-in-loop-c
+    (λ c. omega (arith, c.requires.few))  -- offset_bounds-state-c-in-loop-c-2
+    (λ c. omega (arith, c.requires.few))  -- bounds-state-c-in-loop-c-2
+    (λ c κs. c.requires.each _ c.loop-c-test.true)  -- settlement_price-requires
+    (λ c. omega (arith, c.requires.few))  -- offset_bounds-prices-c
+    (λ c. omega (arith, c.requires.few))  -- bounds-prices-c
+    (λ c. omega (arith, c.requires.few))  -- overflow_add-c
     (λ c. omega arith)  -- loop-less
     loop-again
-    (λ c. prices_done _ _ _ c.loop-test.false c.before.loop.invariant))  -- returns
+    (λ c. prices_done _ _ _ c.loop-c-test.false c.loop-c.invariant))  -- returns
