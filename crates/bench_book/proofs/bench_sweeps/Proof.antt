@@ -28,17 +28,16 @@ enter-requires c κs =
     ready _ c.taker-t.ensures _ _ c.loop-done.invariant.1.1.1.1 (c.requires.each _ c.loop-done-test.true)
 
 loop-again : tie.Need-loop-done-preserved invariant-loop decreases-loop
-loop-again c =
+loop-again c = (
+  omega arith,
+  (
+    c.enter-e.auto.own ∙ c.loop-done.invariant.1.0,
     (
-      omega arith,
-      (
-        c.enter-e.auto.0 ∙ c.loop-done.invariant.1.0,
-        (
-          c.enter-e.auto.1.1.0 ∙ c.loop-done.invariant.1.1.0,
-          (c.enter-e.auto.1.1.1.1.0 ∙ c.loop-done.invariant.1.1.1.0, once_more _ c.taker-t.ensures _ _ c.loop-done.invariant.1.1.1.1 c.enter-e.ensures),
-        ),
-      ),
-    )
+      c.enter-e.auto.opposite ∙ c.loop-done.invariant.1.1.0,
+      (c.enter-e.auto.area ∙ c.loop-done.invariant.1.1.1.0, once_more _ c.taker-t.ensures _ _ c.loop-done.invariant.1.1.1.1 c.enter-e.ensures),
+    ),
+  ),
+)
 
 returns : tie.Need-returns invariant-loop decreases-loop
 unfolding holding_at account_at
