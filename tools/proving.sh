@@ -6,7 +6,7 @@ has() { command -v "$1" >/dev/null 2>&1; }
 
 # What is proved and built, as one hash.
 sources_hash() {
-    (cd "$top" && { sha256sum crates.txt VERSION && find crates include -type f ! -path '*/__pycache__/*' ! -path 'crates/*/out/*' -exec sha256sum {} +; } |
+    (cd "$top" && { sha256sum crates.txt VERSION && find crates include -type f ! -path '*/__pycache__/*' -exec sha256sum {} +; } |
         LC_ALL=C sort | sha256sum | cut -d ' ' -f 1)
 }
 
@@ -35,13 +35,13 @@ count_needed() { crates_needed "$1" | wc -l | tr -d ' '; }
 
 # ---- a proof, which takes minutes
 
-worker='' starting='' lines_seen=0 proved_told=0 last_told=0
+worker='' starting='' lines_seen=0 last_told=0
 
-# Has rt prove a crate, by lib or run, with the lock, and tells how it goes. Its words go to the log. Its status.
-prove() { # CRATE LOG lib|run
+# Proves by a command in the top folder, with the lock, and tells how it goes. Its words go to the log. Its status.
+prove() { # CRATE LOG COMMAND ..
     crate=$1 log=$2
-    # shellcheck disable=SC2016
-    start sh -c 'cd "$1" && exec rt "$2"' sh "crates/$crate" "$3"
+    shift 2
+    start "$@"
     pause=0.1 rounds=0
     while kill -0 "$worker" 2>/dev/null; do
         tell_progress
@@ -61,7 +61,7 @@ prove() { # CRATE LOG lib|run
 # Starts a command in a session of its own, so that it can be ended with all that it starts. It is ended too where this
 # script is killed. Whatever it starts keeps the lock open, which is so held for as long as something is at work.
 start() { # COMMAND ..
-    lines_seen=0 proved_told=0 last_told=$(date +%s)
+    lines_seen=0 last_told=$(date +%s)
     : >"$log"
     printf '%s\n' "$last_told" >"$top/target/proof.began"
     starting=yes
@@ -111,55 +111,47 @@ tell_progress() {
     [ $((now - last_told)) -lt "$QUIET" ] || { tell_at_work && last_told=$now; }
 }
 
-# What rt has begun and proved, in that order, by the log: lines "begun NAME" and "proved NAME". It says nothing of a crate that it
-# proved before.
-told_by_rt() {
-    awk '/^rt: chose --jobs [0-9]+ for / { print "begun " $NF }
-        /^crate [^ ]+: / { name = $2; sub(/:$/, "", name) }
-        /^logic=proved/ { print "proved " name }' "$log"
-}
-
-# Tells each crate of the log that was not told yet, with its place among those that are needed, lowest first.
+# Tells each crate of the log that was not told yet.
 tell_proved() {
     lines=$(wc -l <"$log")
     [ "$lines" -gt "$lines_seen" ] || return 0
+    new=$(awk -v seen="$lines_seen" -v last="$lines" -v needed="$(count_needed "$crate")" '
+        NR > last { exit }
+        !/^rt: .* proved \(/ { next }
+        { proved++ }
+        NR > seen && !/\(unchanged/ { print proved " of " needed ": " substr($0, 5) }' "$log")
     lines_seen=$lines
-    new=$({
-        crates_needed "$crate" | sed 's/^/needed /'
-        told_by_rt
-    } | awk -v told="$proved_told" '
-        $1 == "needed" { place[$2] = ++needed }
-        $1 == "proved" && $2 in place && ++proved > told { print place[$2] " of " needed ": " $2 " proved" }')
     [ -n "$new" ] || return 0
     printf '%s\n' "$new" | while IFS= read -r line; do say "$line"; done
-    proved_told=$((proved_told + $(printf '%s\n' "$new" | wc -l)))
     last_told=$(date +%s)
 }
 
-# What rt has at work, and what is left above it; how long that takes by the seconds of another machine, and the time that has
-# passed here.
+# What rt has proved and has at work by its folder of logs; how long that takes by the seconds of another machine, and the
+# time that has passed here.
 tell_at_work() {
     began=$top/target/proof.began
-    [ -s "$began" ] || return 0
+    if [ ! -d "$top/target/log" ] || [ ! -s "$began" ]; then return 0; fi
     words=$({
         sed 's/^/seconds /' "$top/tools/proving-seconds.txt"
         crates_needed "$crate" | sed 's/^/needed /'
-        told_by_rt
+        find "$top/target/log" -name '*.res' -newer "$began" | while IFS= read -r found; do
+            one=${found##*/}
+            printf 'state %s %s\n' "${one%.res}" "$(cat "$found")"
+        done
     } | awk -v passed="$(($(date +%s) - $(cat "$began")))" '
         $1 == "seconds" { seconds[$2] = $3 }
         $1 == "needed" { needed[++count] = $2 }
-        $1 == "begun" { begun = $2 }
-        $1 == "proved" { proved[$2]; if (begun == $2) begun = ""; last = $2 }
+        $1 == "state" { state[$2] = $3 }
         END {
-            for (k = 1; k <= count; k++) place[needed[k]] = k
-            done = begun in place ? place[begun] - 1 : place[last] + 0
             for (k = 1; k <= count; k++) {
                 name = needed[k]
                 cost = name in seconds ? seconds[name] : 15
-                if (k > done) left += cost
-                else if (name in proved) spent += cost
+                if (name in state && state[name] ~ /^(proved|built)$/) { done++; spent += cost; continue }
+                left += cost
+                last = name
+                if (name in state) at = at (at ? ", " : "") name
             }
-            at = begun in place ? begun : ""
+            if (!at && done == count - 1) at = last
             rate = spent > 30 ? passed / spent : 0.8
             minutes = int(left * rate / 60 + 0.5)
             printf "%d of %d crates proved", done, count
@@ -176,7 +168,7 @@ take_lock() { # CRATE LOG
     exec 9>>"$top/.run.lock"
     if flock -n 9; then return; fi
     say "waiting for another run, which proves and builds"
-    crate=$1 log=$2 lines_seen=0 proved_told=0 last_told=$(date +%s)
+    crate=$1 log=$2 lines_seen=0 last_told=$(date +%s)
     until flock -w 1 9; do
         now=$(date +%s)
         [ $((now - last_told)) -lt "$QUIET" ] || { tell_at_work && last_told=$now; }

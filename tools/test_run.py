@@ -31,32 +31,30 @@ COMMANDS = (
 
 KIT = """#!/bin/sh
 kit={kit}
-proved() {{
-    echo "crate $1: modules loaded=0 checked=1"
-    echo "logic=proved functions=1"
-}}
 case $1 in
 version) cat "$kit/version" ;;
-run)
+check)
     mkdir "$kit/busy" || {{ touch "$kit/clash"; exit 2; }}
     trap 'rmdir "$kit/busy"; exit 143' TERM
-    echo "$* ${{PWD##*/}}" >>"$kit/calls"
-    echo "rt: chose --jobs 2 for one"
-    proved one
-    echo "rt: chose --jobs 2 for two"
+    echo "$*" >>"$kit/calls"
+    how='1 s'
+    [ ! -e target/stamp/dayrun ] || how='unchanged since it was last proved'
+    mkdir -p target/log
+    echo proved >target/log/one.res
+    echo failed >target/log/two.res
+    echo "rt: one proved (1 s)"
+    echo "logic=proved"
     # As rt does: a background command, which does not take Ctrl-C.
     sleep "$(cat "$kit/seconds")" &
     echo $! >"$kit/new"
     mv "$kit/new" "$kit/prover"
     wait $!
-    proved two
-    if [ -e "$kit/edit" ]; then rm "$kit/edit"; echo more >>../one/src/lib.rt; fi
-    echo "rt: chose --jobs 2 for dayrun"
-    if [ -e "$kit/fails" ]; then echo "logic=not-proved"; rmdir "$kit/busy"; exit 1; fi
-    proved dayrun
-    mkdir -p out
-    cp "$kit/dayrun" out/dayrun
-    echo "X 20"
+    echo "rt: two proved (unchanged since it was last proved)"
+    if [ -e "$kit/edit" ]; then rm "$kit/edit"; echo more >>crates/one/src/lib.rt; fi
+    if [ -e "$kit/fails" ]; then echo "rt: dayrun NOT PROVED (exit 1, 0 s)"; rmdir "$kit/busy"; exit 1; fi
+    echo "rt: dayrun proved ($how)"
+    mkdir -p target/bin target/stamp
+    if [ ! -e target/stamp/dayrun ]; then cp "$kit/dayrun" target/bin/dayrun; touch target/stamp/dayrun; fi
     rmdir "$kit/busy"
     ;;
 esac
@@ -79,15 +77,13 @@ class RunTest(unittest.TestCase):
         self.kit = self.room / "kit"
         self.bin = self.room / "bin"
         self.temporary = self.room / "tmp"
-        for crate in ("one", "two", "dayrun"):
-            (self.top / "crates" / crate / "src").mkdir(parents=True)
-        for folder in (self.kit, self.bin):
-            folder.mkdir()
+        for folder in (self.top / "crates" / "one" / "src", self.top / "crates" / "two" / "src", self.kit, self.bin):
+            folder.mkdir(parents=True)
         self.temporary.mkdir()
         self.temporary.chmod(0o1777)
         shutil.copy(TOP / "run", self.top)
         (self.top / "tools").symlink_to(TOP / "tools")
-        (self.top / "crates.txt").write_text("# a comment\none:\ntwo: one\nthree: two\ndayrun: one two io\n")
+        (self.top / "crates.txt").write_text("# a comment\none:\ntwo: one\nthree: two\ndayrun: one two io libc\n")
         (self.top / "crates" / "one" / "src" / "lib.rt").write_text("one\n")
         (self.top / "crates" / "two" / "src" / "lib.rt").write_text("two\n")
         (self.kit / "version").write_text("kit 1\n")
@@ -126,7 +122,7 @@ class RunTest(unittest.TestCase):
     def calls(self):
         """How often the kit was asked to prove."""
         path = self.kit / "calls"
-        return path.read_text().count("run dayrun\n") if path.exists() else 0
+        return path.read_text().count("check dayrun\n") if path.exists() else 0
 
     def build(self):
         self.assertEqual(self.run_run(EXAMPLE)[:2], (0, LINES))
@@ -379,11 +375,10 @@ class Proving(RunTest):
 
     def test_crates_are_told(self):
         first = "run: proving and building the day runner, 3 crates: some minutes the first time, less after a change\n"
-        told = ("1 of 3: one proved", "2 of 3: two proved", "3 of 3: dayrun proved")
-        self.assert_calls(1, first + "".join(f"run: {line}\n" for line in told))
+        self.assert_calls(1, first + "run: 1 of 3: one proved (1 s)\nrun: 3 of 3: dayrun proved (1 s)\n")
         self.assert_calls(1, "")
         log = (self.top / "target" / "run.log").read_text()
-        self.assertEqual(len(log.splitlines()), 10)
+        self.assertEqual(len(log.splitlines()), 4)
 
     def test_again_where_something_differs(self):
         self.assert_calls(1)
@@ -424,7 +419,7 @@ class Proving(RunTest):
         for calls in (1, 2):
             status, output, errors = self.run_run(EXAMPLE)
             self.assertEqual((status, output, self.calls()), (1, b"", calls))
-            self.assertIn("\nlogic=not-proved\nrun: the day runner is not proved", errors)
+            self.assertIn("\nrt: dayrun NOT PROVED (exit 1, 0 s)\nrun: the day runner is not proved", errors)
         (self.kit / "fails").unlink()
         self.assert_calls(3)
 
