@@ -26,7 +26,7 @@ crates_needed() { # CRATE
             print name
         }
         { sub(/#.*/, ""); colon = index($0, ":"); if (!colon) next
-          name = substr($0, 1, colon - 1); gsub(/[ \t]/, "", name)
+          split(substr($0, 1, colon - 1), words, " "); name = words[1]
           needs[name] = substr($0, colon + 1) }
         END { visit(crate) }' "$top/crates.txt"
 }

@@ -56,19 +56,21 @@ class Version(InRoom):
 # Proves nothing: tells two crates, and leaves an archive with one call.
 KIT = """#!/bin/sh
 kit={kit}
+proved() {{
+    echo "crate $1: modules loaded=0 checked=1"
+    echo "logic=proved functions=1"
+}}
 case $1 in
 version) cat "$kit/version" ;;
-staticlib)
-    echo "$*" >>"$kit/calls"
-    echo "rt: one proved (1 s)"
-    echo "logic=proved"
-    echo "rt: two proved (unchanged since it was last proved)"
-    if [ -e "$kit/edit" ]; then rm "$kit/edit"; echo more >>crates/one/src/lib.rt; fi
-    if [ -e "$kit/fails" ]; then echo "rt: exports NOT PROVED (exit 1, 0 s)"; exit 1; fi
-    echo "rt: exports proved (2 s)"
-    mkdir -p target/staticlib
+lib)
+    echo "$* ${{PWD##*/}}" >>"$kit/calls"
+    proved one
+    if [ -e "$kit/edit" ]; then rm "$kit/edit"; echo more >>../one/src/lib.rt; fi
+    if [ -e "$kit/fails" ]; then echo "logic=not-proved"; exit 1; fi
+    proved exports
+    mkdir -p out
     echo 'int zelvorm_open(void) {{ return 0; }} int inner(void) {{ return 1; }}' >"$kit/stub.c"
-    cc -fPIC -c "$kit/stub.c" -o "$kit/stub.o" && ar rc target/staticlib/libexports.a "$kit/stub.o"
+    cc -fPIC -c "$kit/stub.c" -o "$kit/stub.o" && ar rc out/libexports.a "$kit/stub.o"
     ;;
 esac
 """
@@ -81,13 +83,13 @@ class Built(InRoom):
     def setUp(self):
         super().setUp()
         self.top, self.kit, self.bin = self.room / "a folder", self.room / "kit", self.room / "bin"
-        for folder in (self.top / "tools", self.top / "crates" / "one" / "src", self.kit, self.bin):
+        for folder in (self.top / "tools", self.top / "crates" / "one" / "src", self.top / "crates" / "exports", self.kit, self.bin):
             folder.mkdir(parents=True)
         for name in ("build_library", "proving.sh", "version"):
             shutil.copy(TOP / "tools" / name, self.top / "tools")
         shutil.copytree(TOP / "include", self.top / "include")
         shutil.copy(TOP / "VERSION", self.top)
-        (self.top / "crates.txt").write_text("one:\ntwo: one\nexports: two\nother: one\n")
+        (self.top / "crates.txt").write_text("one:\ntwo: one\nexports staticlib: two\nother: one\n")
         self.source = self.top / "crates" / "one" / "src" / "lib.rt"
         self.source.write_text("one\n")
         (self.kit / "version").write_text("kit 1\nmore\n")
@@ -120,9 +122,9 @@ class Built(InRoom):
         status, output, errors = self.build()
         self.assertEqual(status, 0, errors)
         self.assertIn("proving and building the library, 3 crates", errors)
-        self.assertIn("1 of 3: one proved (1 s)", errors)
+        self.assertIn("1 of 3: one proved", errors)
         self.assertNotIn("two proved", errors)
-        self.assertIn("3 of 3: exports proved (2 s)", errors)
+        self.assertIn("3 of 3: exports proved", errors)
         self.assertIn("target/library/libzelvorm.so", output)
         self.assertTrue(self.is_current())
         self.assertEqual(self.build()[2], "")
@@ -146,7 +148,7 @@ class Built(InRoom):
         changes = {
             "a source": lambda: self.source.write_text("another\n"),
             "a new source": lambda: (self.source.parent / "more.rt").write_text(""),
-            "the crates": lambda: (self.top / "crates.txt").write_text("one:\ntwo: one\nexports: two\n"),
+            "the crates": lambda: (self.top / "crates.txt").write_text("one:\ntwo: one\nexports staticlib: two\n"),
             "the version": lambda: (self.top / "VERSION").write_text("1.0.9\n"),
             "the header": lambda: longer(self.top / "include" / "zelvorm.h"),
             "the kit": another_kit,
@@ -184,7 +186,7 @@ class Built(InRoom):
         (self.kit / "fails").touch()
         status, _, errors = self.build()
         self.assertEqual(status, 1)
-        self.assertIn("exports NOT PROVED", errors)
+        self.assertIn("logic=not-proved", errors)
         self.assertFalse(self.is_current())
 
     def test_takes_the_lock_of_run(self):

@@ -54,8 +54,7 @@ pub fn probed(state: State, account: usize, contract: usize) -> Probe
 }
 
 // Runs the commands on the state that the day file opens with.
-#[unsafe(no_mangle)]
-pub extern "C" fn bench_run<'a>(
+pub fn bench_run<'a>(
     day: &'a [u8],
     commands: &'a [u8],
     buys: &mut [u32],

@@ -4,33 +4,49 @@
 
 ghost use Rattle.std.specs.Prelude.{◌≤◌, length};
 
-use libc::STDOUT_FILENO;
+use std::fs::File;
+use std::os::fd::AsRawFd;
+use std::str;
+
+const STDOUT_FILENO: i32 = 1;
+
+// What the file of that name holds, as far as there is room for it; nothing where it cannot be read. How much that is.
+fn read_named(rt: &HostRuntime, name: &[u8], file: &mut [u8]) -> usize
+    ensures { result ≤ length file.new }
+{
+    let Ok(name) = str::from_utf8(name) else {
+        return 0;
+    };
+    let Ok(open) = File::open(rt, name) else {
+        return 0;
+    };
+    io::read_full(open.as_raw_fd(), file)
+}
 
 // What the runner prints of a file, to the descriptor `out`; what is to be said of the last write, to standard output.
-fn print_named(name: &[u8], out: i32) {
-    let fd = os::open_read(name);
+fn print_named(rt: &HostRuntime, name: &[u8], out: i32) {
     let mut file = runner::reading::room();
-    let n = io::read_full(fd, &mut file);
-    libc::close(fd);
+    let n = read_named(rt, name, &mut file);
     let note = writer::print_file(out, &file[..n]);
     let bytes = note.bytes;
     let length = note.length;
     io::write_all(STDOUT_FILENO, &bytes[..length]);
 }
 
-fn run_case(name: &[u8]) {
+fn run_case(rt: &HostRuntime, name: &[u8]) {
     io::write_all(STDOUT_FILENO, name);
     io::write_all(STDOUT_FILENO, b"\n");
-    print_named(name, STDOUT_FILENO);
+    print_named(rt, name, STDOUT_FILENO);
 }
 
 // A file printed to a descriptor that is open for reading only: no write to it can succeed.
-fn run_unwritable(name: &[u8]) {
-    let out = os::open_read(b"list");
+fn run_unwritable(rt: &HostRuntime, name: &[u8]) {
+    let Ok(out) = File::open(rt, "list") else {
+        return;
+    };
     io::write_all(STDOUT_FILENO, name);
     io::write_all(STDOUT_FILENO, b": ");
-    print_named(name, out);
-    libc::close(out);
+    print_named(rt, name, out.as_raw_fd());
 }
 
 // The end of the line that begins at `start`.
@@ -48,11 +64,11 @@ fn line_end(list: &[u8], start: usize) -> usize
     end
 }
 
-fn run_cases(list: &[u8]) {
+fn run_cases(rt: &HostRuntime, list: &[u8]) {
     let mut start: usize = 0;
     while start < list.len() {
         let end = line_end(list, start);
-        run_case(&list[start..end]);
+        run_case(rt, &list[start..end]);
         if end == list.len() {
             return;
         }
@@ -60,12 +76,10 @@ fn run_cases(list: &[u8]) {
     }
 }
 
-fn main() {
-    let fd = os::open_read(b"list");
+fn main(rt: HostRuntime) {
     let mut list = [0u8; 4096];
-    let n = io::read_full(fd, &mut list);
-    libc::close(fd);
-    run_cases(&list[..n]);
-    run_unwritable(b"paper-example.day");
-    run_unwritable(b"broken-empty.day");
+    let n = read_named(&rt, b"list", &mut list);
+    run_cases(&rt, &list[..n]);
+    run_unwritable(&rt, b"paper-example.day");
+    run_unwritable(&rt, b"broken-empty.day");
 }

@@ -7,9 +7,13 @@ ghost use Rattle.std.specs.Prelude.{◌≤◌, length};
 mod calls;
 
 use calls::{Checked, Ran};
-use libc::STDOUT_FILENO;
+use std::fs::File;
+use std::os::fd::AsRawFd;
+use std::str;
 use test_given::building::{ALL, Given};
 use test_given::{building, comparing, reading};
+
+const STDOUT_FILENO: i32 = 1;
 
 fn left_as_told(
     ran: Ran,
@@ -110,11 +114,22 @@ fn run_vectors(name: &[u8], file: &[u8]) {
     }
 }
 
-fn run_file(name: &[u8]) {
-    let fd = os::open_read(name);
+// What the file of that name holds, as far as there is room for it; nothing where it cannot be read. How much that is.
+fn read_named(rt: &HostRuntime, name: &[u8], file: &mut [u8]) -> usize
+    ensures { result ≤ length file.new }
+{
+    let Ok(name) = str::from_utf8(name) else {
+        return 0;
+    };
+    let Ok(open) = File::open(rt, name) else {
+        return 0;
+    };
+    io::read_full(open.as_raw_fd(), file)
+}
+
+fn run_file(rt: &HostRuntime, name: &[u8]) {
     let mut file = [0u8; 400000];
-    let n = io::read_full(fd, &mut file);
-    libc::close(fd);
+    let n = read_named(rt, name, &mut file);
     run_vectors(name, &file[..n]);
 }
 
@@ -133,11 +148,11 @@ fn line_end(list: &[u8], start: usize) -> usize
     end
 }
 
-fn run_files(list: &[u8]) {
+fn run_files(rt: &HostRuntime, list: &[u8]) {
     let mut start: usize = 0;
     while start < list.len() {
         let end = line_end(list, start);
-        run_file(&list[start..end]);
+        run_file(rt, &list[start..end]);
         if end == list.len() {
             return;
         }
@@ -145,10 +160,8 @@ fn run_files(list: &[u8]) {
     }
 }
 
-fn main() {
-    let fd = os::open_read(b"list");
+fn main(rt: HostRuntime) {
     let mut list = [0u8; 4096];
-    let n = io::read_full(fd, &mut list);
-    libc::close(fd);
-    run_files(&list[..n]);
+    let n = read_named(&rt, b"list", &mut list);
+    run_files(&rt, &list[..n]);
 }

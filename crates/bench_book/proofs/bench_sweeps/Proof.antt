@@ -11,7 +11,7 @@ use Rattle.bench_book.specs.Calls.{start, entered}
 use Rattle.bench_book.proofs.bench_sweeps.Statement.{statement}
 use Rattle.bench_book.proofs.bench_sweeps.Tie as tie
 
-abbrev invariant-loop : tie.invariant-loop
+abbrev invariant-loop : tie.invariant-loop-done
 invariant-loop own₀ opposite₀ trades₀ s times t accounts₀ own-count₀ opposite-count₀ made₀ last₀ done₀ own opposite trades accounts own_count opposite_count made last done =
     (done ≤ times)
     × ((length own ≡ length own₀)
@@ -19,69 +19,49 @@ invariant-loop own₀ opposite₀ trades₀ s times t accounts₀ own-count₀ o
     × ((length trades ≡ length trades₀)
     × (book_of own own_count opposite opposite_count trades made last accounts ≡ entered s (start s own₀ opposite₀ trades₀) done))))
 
-abbrev decreases-loop : tie.decreases-loop
+abbrev decreases-loop : tie.decreases-loop-done
 decreases-loop own₀ opposite₀ trades₀ s times t accounts₀ own-count₀ opposite-count₀ made₀ last₀ done₀ own opposite trades accounts own_count opposite_count made last done =
     times - done
 
--- back to the start
-abbrev Begun : tie.At-loop invariant-loop decreases-loop → tie.Start invariant-loop decreases-loop
-Begun c = c.before.before.before.before.before.before
-
--- back to the loop's head
-abbrev Head : tie.After-enter invariant-loop decreases-loop → tie.At-loop invariant-loop decreases-loop
-Head c = c.before.before.before.before.before
-
--- back to the call whose answer is `probe`
-abbrev Probe : tie.After-holding invariant-loop decreases-loop → tie.After-wide invariant-loop decreases-loop
-Probe c = c.before.before.before
-
--- back to the call of `enter`
-abbrev Enter : tie.After-accounts invariant-loop decreases-loop → tie.After-enter invariant-loop decreases-loop
-Enter c = c.before.before.before.before.before.before.before
-
-enter-requires : tie.Need-enter-requires invariant-loop decreases-loop
+enter-requires : tie.Need-enter-e-requires invariant-loop decreases-loop
 enter-requires c κs =
-    let at = c.before.before.before.before in
-    ready _ at.before.before.taker.ensures _ _ at.loop.invariant.1.1.1.1 ((Begun at).requires.each _ c.before.before.before.loop-test.true)
+    ready _ c.taker-t.ensures _ _ c.loop-done.invariant.1.1.1.1 (c.requires.each _ c.loop-done-test.true)
 
-loop-again : tie.Need-loop-preserved invariant-loop decreases-loop
-loop-again c =
-    let called = Enter c in
-    let at = Head called in (
-      omega arith,
-      (
-        called.enter.kept.0 ∙ at.loop.inv.1.0,
-        (
-          called.enter.kept.1.1.0 ∙ at.loop.inv.1.1.0,
-          (called.enter.kept.1.1.1.1.0 ∙ at.loop.inv.1.1.1.0, once_more _ at.before.before.taker.ensures _ _ at.loop.inv.1.1.1.1 called.enter.ensures),
-        ),
-      ),
-    )
+loop-again : tie.Need-loop-done-preserved invariant-loop decreases-loop
+loop-again c = (
+  omega arith,
+  (
+    c.enter-e.auto.own ∙ c.loop-done.invariant.1.0,
+    (
+      c.enter-e.auto.opposite ∙ c.loop-done.invariant.1.1.0,
+      (c.enter-e.auto.area ∙ c.loop-done.invariant.1.1.1.0, once_more _ c.taker-t.ensures _ _ c.loop-done.invariant.1.1.1.1 c.enter-e.ensures),
+    ),
+  ),
+)
 
 returns : tie.Need-returns invariant-loop decreases-loop
 unfolding holding_at account_at
 returns c =
-    let at = (Probe c).before.before in
-    done _ at.before.before.taker.ensures _ _ at.loop.inv.1.1.1.1 (omega arith) c.before.before.before.wide.ensures c.before.before.wide2.ensures
+    done _ c.taker-t.ensures _ _ c.loop-done.invariant.1.1.1.1 (omega arith) c.wide-probe.ensures c.wide-c.ensures
 
-pub bench-sweeps-spec : {M : Type 1} → statement M
-bench-sweeps-spec = tie.close (tie.spec
+pub bench_sweeps_spec : {M : Type 1} → statement M
+bench_sweeps_spec = tie.close (tie.spec
     invariant-loop
     decreases-loop
-    (λ c κs. search rules)  -- taker-requires
-    (λ c κs. search rules)  -- accounts-with-requires
-    (λ c. (omega arith, (refl, (refl, (refl, begun _ c.accounts-with.ensures)))))  -- loop-holds
+    (λ c κs. search rules)  -- taker-t-requires
+    (λ c κs. search rules)  -- accounts_with-accounts-requires
+    (λ c. (omega arith, (refl, (refl, (refl, begun _ c.accounts_with-accounts.ensures)))))  -- loop-holds
     enter-requires
-    (λ c. omega arith)  -- add-done
+    (λ c. omega arith)  -- overflow_add-done
     (λ c. omega arith)  -- loop-less
     loop-again
-    (λ c κs. search rules)  -- wide-requires
-    (λ c κs. search rules)  -- wide-requires-2
-    (λ c. search rules)  -- mul-account
-    (λ c. search rules)  -- array-copy-out-account
-    (λ c. search rules)  -- mul-holding
-    (λ c. search rules)  -- element-copy-out-holding
-    (λ c. search rules)  -- same-length
-    (λ c. search rules)  -- same-length-2
-    (λ c. search rules)  -- same-length-3
+    (λ c κs. search rules)  -- wide-probe-requires
+    (λ c κs. search rules)  -- wide-c-requires
+    (λ c. search rules)  -- offset_bounds-accounts-probe
+    (λ c. search rules)  -- bounds-accounts-probe
+    (λ c. search rules)  -- offset_bounds-account-c
+    (λ c. search rules)  -- bounds-account-c
+    (λ c. search rules)  -- shape_of-own
+    (λ c. search rules)  -- shape_of-opposite
+    (λ c. search rules)  -- shape_of-trades
     returns)

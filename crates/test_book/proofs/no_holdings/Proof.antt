@@ -8,5 +8,5 @@ returns : tie.Need-returns
 unfolding no_holdings
 returns c = refl
 
-pub no-holdings-spec : {M : Type 1} → statement M
-no-holdings-spec = tie.close (tie.spec returns)
+pub no_holdings_spec : {M : Type 1} → statement M
+no_holdings_spec = tie.close (tie.spec returns)

@@ -5,21 +5,21 @@ use borrow.Author.Rules.{rules}
 use Rattle.test_book.proofs.print_queue.Statement.{statement}
 use Rattle.test_book.proofs.print_queue.Tie as tie
 
-abbrev invariant-loop : tie.invariant-loop
+abbrev invariant-loop : tie.invariant-loop-i
 invariant-loop area count i₀ i = i ≤ count
 
-abbrev decreases-loop : tie.decreases-loop
+abbrev decreases-loop : tie.decreases-loop-i
 decreases-loop area count i₀ i = count - i
 
-pub print-queue-spec : {M : Type 1} → statement M
-print-queue-spec = tie.close (tie.spec
+pub print_queue_spec : {M : Type 1} → statement M
+print_queue_spec = tie.close (tie.spec
     invariant-loop
     decreases-loop
-    (λ c. tt)  -- returns
+    (λ c. tt)  -- returns-then-count-gt-MAX_RESTING
     (λ c. omega arith)  -- loop-holds
-    (λ c κs. search rules)  -- order-at-requires
-    (λ c κs. tt)  -- print-lots-requires
-    (λ c. omega arith)  -- add-i
+    (λ c κs. search rules)  -- order_at-o-requires
+    (λ c κs. tt)  -- print_lots-requires
+    (λ c. omega arith)  -- overflow_add-i
     (λ c. omega arith)  -- loop-less
     (λ c. omega arith)  -- loop-again
     (λ c. tt))  -- returns-2

@@ -3,10 +3,10 @@ use Rattle.std.proofs.Common.{◌≡◌, ◌-◌, ◌≤◌, length, rules}
 use Rattle.test_given.proofs.building.fill.Statement.{statement}
 use Rattle.test_given.proofs.building.fill.Tie as tie
 
-abbrev invariant-loop : tie.invariant-loop
+abbrev invariant-loop : tie.invariant-loop-k
 invariant-loop area₀ word₀ k₀ area word k = (length area ≡ length area₀) × (k ≤ length area)
 
-abbrev decreases-loop : tie.decreases-loop
+abbrev decreases-loop : tie.decreases-loop-k
 decreases-loop area₀ word₀ k₀ area word k = length area - k
 
 pub fill_spec : {M : Type 1} → statement M
@@ -14,10 +14,10 @@ fill_spec = tie.close (tie.spec
     invariant-loop
     decreases-loop
     (λ c. search rules)  -- loop-holds
-    (λ c κs. search rules)  -- put-word-requires
-    (λ c κs. search rules)  -- wrapping-add-u32-requires
-    (λ c. search rules)  -- add-k
+    (λ c κs. search rules)  -- put_word-requires
+    (λ c κs. search rules)  -- wrapping_add_u32-word-requires
+    (λ c. search rules)  -- overflow_add-k
     (λ c. search rules)  -- loop-less
     (λ c. search rules)  -- loop-again
-    (λ c. search rules)  -- same-length
+    (λ c. search rules)  -- shape_of-area
     (λ c. search rules))  -- returns

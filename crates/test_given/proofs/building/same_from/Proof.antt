@@ -3,23 +3,23 @@ use Rattle.std.proofs.Common.{◌-◌, ◌≤◌, length, rules}
 use Rattle.test_given.proofs.building.same_from.Statement.{statement}
 use Rattle.test_given.proofs.building.same_from.Tie as tie
 
-abbrev invariant-loop : tie.invariant-loop
+abbrev invariant-loop : tie.invariant-loop-k
 invariant-loop all base area k₀ k = k ≤ length area
 
-abbrev decreases-loop : tie.decreases-loop
+abbrev decreases-loop : tie.decreases-loop-k
 decreases-loop all base area k₀ k = length area - k
 
-pub same-from-spec : {M : Type 1} → statement M
-same-from-spec = tie.close (tie.spec
+pub same_from_spec : {M : Type 1} → statement M
+same_from_spec = tie.close (tie.spec
     invariant-loop
     decreases-loop
     (λ c. search rules)  -- loop-holds
-    (λ c. search rules)  -- mul-if1
-    (λ c. search rules)  -- shared-slice-read-if1
+    (λ c. search rules)  -- offset_bounds-area-k
+    (λ c. search rules)  -- bounds-area-k
     (λ c κs. search rules)  -- sum-requires
-    (λ c κs. search rules)  -- word-at-requires
-    (λ c. search rules)  -- returns
-    (λ c. search rules)  -- add-k
+    (λ c κs. search rules)  -- word_at-requires
+    (λ c. search rules)  -- returns-then-area-k
+    (λ c. search rules)  -- overflow_add-k
     (λ c. search rules)  -- loop-less
     (λ c. search rules)  -- loop-again
     (λ c. search rules))  -- returns-2

@@ -3,14 +3,14 @@ use Rattle.std.proofs.Common.{◌*◌, ◌≤◌, mul-le-mul, arith, rules}
 use Rattle.test_given.proofs.reading.times.Statement.{statement}
 use Rattle.test_given.proofs.reading.times.Tie as tie
 
-mul-result : tie.Need-overflow-mul-result
+mul-result : tie.Need-overflow_mul-result
 mul-result c =
-    let h : c.before.before.args.a * c.before.before.args.b ≤ 1000000 * 1000000 = mul-le-mul {n₂ = 1000000} {m₂ = 1000000} (omega arith) (omega arith) in
+    let h : c.args.a * c.args.b ≤ 1000000 * 1000000 = mul-le-mul {n₂ = 1000000} {m₂ = 1000000} (omega arith) (omega arith) in
     record { fits = omega arith }
 
-pub times-spec : {M : Type 1} → statement M
-times-spec = tie.close (tie.spec
+pub times_spec : {M : Type 1} → statement M
+times_spec = tie.close (tie.spec
     mul-result
-    (λ c. search rules)  -- returns
-    (λ c. search rules)  -- returns-2
+    (λ c. search rules)  -- returns-then-b-lt-FAR
+    (λ c. search rules)  -- returns-else-b-lt-FAR
     (λ c. search rules))  -- returns-3
