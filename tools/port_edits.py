@@ -144,8 +144,7 @@ def main(argv):
             if body.count(o) != 1:
                 said = f"stands {body.count(o)} times: {o}"
                 break
-            lines = [x for x in body.split("\n") if o in x]
-            scope = set(re.findall(r"[\w'ℤ]+", body))
+            scope = set(re.findall(r"[\w'ℤ]+", re.sub(r"(?m)(--|//).*$", "", body)))
             words += [x for x in re.findall(r"[\w'ℤ]+", w) if x not in scope and not x[0].isdigit()]
             now[path] = body.replace(o, w)
             new_pairs.append((file, o, w))
