@@ -10,6 +10,8 @@ after the pairs before it, and each word of `new` must stand in that file alread
 Comments keep their text; names in them get the new spelling.
 """
 
+import functools
+import glob
 import json
 import os
 import re
@@ -102,11 +104,20 @@ def snake(name):
     return re.sub(r"(?<=[a-z0-9'])[A-Z]", lambda m: "_" + m[0].lower(), name)
 
 
+@functools.cache
+def today():
+    """The words of all files of specs/ as they are now."""
+    words = set()
+    for p in glob.glob(os.path.join(ROOT, "crates/*/specs/**/*.antt"), recursive=True):
+        words |= set(WORD.findall(re.sub(r"--.*", "", open(p, encoding="utf-8").read())))
+    return words
+
+
 def turned(path, text, names):
     if path.endswith(".rt"):
         return text
     # Names that port.py turned, and that the table does not have.
-    scope = set(WORD.findall(open(os.path.join(ROOT, path), encoding="utf-8").read()))
+    scope = today()
     names = names | {w: snake(w) for w in WORD.findall(text) if w not in names and w not in scope and snake(w) in scope}
     text = text.replace("′", "'")
     text = respelled(text, names | LIBRARY)
