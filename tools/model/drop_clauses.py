@@ -37,7 +37,7 @@ HOMES = {"leb": PRELUDE, "ltb": PRELUDE, "min": PRELUDE, "max": PRELUDE, "le_z":
 
 # Edits that change no value on any input, by the words of the edit, with the reason.
 NO_DIFFERENCE = (
-    ("conditionsRefused: dropped, the first: isLimit (o .condition) &&", "good for day without a limit is 6 in every state"),
+    ("conditions_refused: dropped, the first: is_limit o.condition &&", "good for day without a limit is 6 in every state"),
     ("smaller: the end of the range: ltb a b", "where the two are equal, the next step decides"),
     ("saved_sound: dropped: && all (mark_sound bs)", "a state that is read with another mark is not well formed"),
 )
