@@ -5,13 +5,13 @@ An argument that is a fact is never tried: only data, as the arguments of the fu
 from proofs import syntax
 
 # Facts that a place has. A path through one of them is a proof, which nothing else determines.
-FACTS = {".pre", ".ensures", ".taken", ".left", ".inv", ".given", ".good", ".kept", ".ok", ".came", ".fits", ".blocks"}
+FACTS = {".requires", ".ensures", ".true", ".false", ".either", ".invariant", ".given", ".well_formed", ".type_inv", ".auto", ".ranges"}
 DATA = {".args", ".result", ".now"}
 TACTICS = {"rw", "simp", "omega", "search", "cc", "let", "in", "ap", "sym", "absurd", "λ", "at"}
 
 
 def candidates(text, item):
-    """The spans of a clause's arguments that may be left out, in order; none lies within another."""
+    """The spans of a clause's arguments that may be left out, in order; none lies within another. Of a loose proof."""
     words = syntax.tokens(text, item.start, item.end)
     found, i = [], next((i for i, token in enumerate(words) if token.text == "="), len(words)) + 1
     while i < len(words):

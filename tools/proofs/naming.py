@@ -1,6 +1,7 @@
 """Places by name: a way back of more than four `.before` goes by names that stand at the top of the proof.
 
-A name is an `abbrev` from one place of the function to an earlier one. Few are wanted, each for many ways: `links_for` picks them, and
+A way to a fact needs no `.before` at all: each place opens the one before it, so that `c` has the facts of all. What is left are ways to
+places themselves, and to facts of a name that a later place has too. A name is an `abbrev` from one place of the function to an earlier one. Few are wanted, each for many ways: `links_for` picks them, and
 `named` writes the proof with them. What a name says is what is known at the place that it leads to.
 """
 
@@ -59,14 +60,14 @@ class Places:
         return chain[count] if place and count < len(chain) else None
 
     def is_call(self, place):
-        return self.function.names_in(f"{place}·own") == list(OF_A_CALL)
+        return self.function.names_in(f"Own-{place}") == list(OF_A_CALL)
 
 
 # --- What is known of a proof's names ---
 
 
 def place_in(places, words):
-    """The place that a type names, if it is one: `tie.PLACE Inv-loop μ-loop`."""
+    """The place that a type names, if it is one: `tie.PLACE invariant-loop decreases-loop`."""
     name = words[0].removeprefix("tie.") if words and words[0].startswith("tie.") else ""
     return name if name == "Start" or name in places.before else None
 
@@ -144,7 +145,7 @@ class Proof:
         answers = []
         while i < len(words) and words[i].text != ")":
             j = syntax.past(words, i)
-            if not words[i].text.startswith(("Inv-", "μ-")):
+            if not words[i].text.startswith(("invariant-", "decreases-")):
                 answers.append(words[i:j])
             i = j
         if len(answers) != len(self.places.function.needs):
@@ -239,9 +240,9 @@ def worth(places, place):
     """How little a place says, as the end of a way: 0 for the start, a call, a loop's head."""
     if place == "Start" or place.startswith("At-") or places.is_call(place):
         return 0.0
-    if re.match(r"(Then|Else|In-)", place):
+    if re.match(r"(Then|Else|In)-", place):
         return 1.5
-    return 5.0 if re.search(r"(known|arg)\d*$", place) else 3.0
+    return 5.0 if re.search(r"(known|arg)(-\d+)?$", place) else 3.0
 
 
 def link_cost(places, link, links):
@@ -292,21 +293,14 @@ def called(source, callee, number):
     return calls[number - 1].group(1) if number <= len(calls) else None
 
 
-def tests_of(places, source):
-    """The conditions of the source in the order of its tests, `a || b` as two; none where they are not all of them."""
-    conditions = re.findall(r"\bif\s+([^{};]*?)\s*\{", re.sub(r"//[^\n]*", "", source))
-    found = [part.strip() for condition in conditions for part in re.split(r"\|\||&&", condition)]
-    count = max((int(match.group(1)) for name in places.before if (match := re.match(r"(?:Then|Else)(\d+)$", name))), default=0)
-    return found if len(found) == count else []
+def callee_of(place):
+    """The function whose call leads to a place: After-NAME, with what tells it from other calls behind."""
+    return re.match(r"[A-Za-z0-9_]*", place.partition("-")[2]).group()
 
 
-SAY_NOTHING = {"let", "len", "rules", "true", "false"}
-
-
-def test_name(condition):
-    """The word that tells what a condition is about."""
-    words = [word for word in re.findall(r"[a-z][a-z_]+(?!\w*::)", condition) if len(word) > 2 and word not in SAY_NOTHING]
-    return words[0].replace("_", "-") if words else None
+def camel(words):
+    """Words as the name of a type has them."""
+    return "".join(part[:1].upper() + part[1:] for part in re.split(r"[_-]", words))
 
 
 def words_of(places, place, source):
@@ -314,25 +308,19 @@ def words_of(places, place, source):
     if place == "Start":
         return ["Begun"]
     kind, _, rest = place.partition("-")
-    if kind == "At":
-        return ["Head", *([] if rest == "loop" else [f"Head-of-{rest}"])]
-    if kind == "In":
-        return ["Turn", *([] if rest == "loop" else [f"Turn-of-{rest}"])]
-    if match := re.match(r"(Then|Else)(\d+)$", place):
-        way, number = "Met" if match.group(1) == "Then" else "Past", int(match.group(2))
-        tests = tests_of(places, source)
-        about = test_name(tests[number - 1]) if number <= len(tests) else None
-        return ([f"{way}-{about}"] if about else []) + [f"{way}-if{number}"]
-    title = rest[:1].upper() + rest[1:]
+    plain = {"At": "Head", "In": "Turn", "Then": "Met", "Else": "Past"}
+    if kind in ("At", "In"):
+        return [plain[kind], f"{plain[kind]}Of{camel(rest)}"]
+    if kind in ("Then", "Else"):
+        return [f"{plain[kind]}{camel(rest)}"]
+    title = camel(rest)
     if not places.is_call(place):
         return [title]
-    callee, number = rest, 1
-    calls = {name for name in places.before if places.is_call(name)}
-    if (match := re.match(r"(.*?)([2-9]|[1-9]\d)$", rest)) and f"After-{match.group(1)}" in calls:
-        callee, number = match.group(1), int(match.group(2))
-    kept = called(source, callee.replace("-", "_"), number)
+    callee = callee_of(place)
+    calls = [name for name in places.before if places.is_call(name) and callee_of(name) == callee]
+    kept = called(source, callee, calls.index(place) + 1)
     has_words = kept and len(kept) > 2
-    return ([kept[:1].upper() + kept[1:].replace("_", "-")] if has_words else []) + [title]
+    return ([camel(kept)] if has_words else []) + [title]
 
 
 def names_for(places, links, source, taken):
@@ -340,8 +328,8 @@ def names_for(places, links, source, taken):
     names, taken = {}, set(taken)
     for link in sorted(links, key=lambda each: len(places.chain(each.target))):
         words = words_of(places, link.target, source)
-        behind = words_of(places, link.source, source)[0].lower()
-        for name in [*words, *(f"{word}-from-{behind}" for word in words), *(f"{words[0]}-{n}" for n in range(2, 99))]:
+        behind = words_of(places, link.source, source)[0]
+        for name in [*words, *(f"{word}From{behind}" for word in words), *(f"{words[0]}{n}" for n in range(2, 99))]:
             if name not in taken:
                 break
         names[link] = name
@@ -355,16 +343,17 @@ def known_at(places, place, source):
         return "the start"
     kind, _, rest = place.partition("-")
     if kind == "At":
-        return "the loop's head" if rest == "loop" else f"the head of `{rest}`"
+        return f"the head of `{rest}`"
     if kind == "In":
-        return "the turn's begin"
-    if match := re.match(r"(?:Then|Else)(\d+)$", place):
-        tests = tests_of(places, source)
-        return f"the test `{tests[int(match.group(1)) - 1] if tests else places.function.records[place][-1][0]}`"
+        return f"the turn's begin in `{rest}`"
+    if kind in ("Then", "Else"):
+        return f"the test `{rest}`, which {'held' if kind == 'Then' else 'did not hold'}"
     if not places.is_call(place):
         return f"where `{rest}` is known"
-    name = words_of(places, place, source)[0].lower()
-    return f"the call of `{rest}`" if name == rest else f"the call whose answer is `{name.replace('-', '_')}`"
+    callee = callee_of(place)
+    calls = [name for name in places.before if places.is_call(name) and callee_of(name) == callee]
+    kept = called(source, callee, calls.index(place) + 1)
+    return f"the call whose answer is `{kept}`" if kept and len(kept) > 2 and kept != callee else f"the call of `{callee}`"
 
 
 # --- A proof with them ---
@@ -384,7 +373,7 @@ def source_of(root, crate, function):
 
 def arguments_of(text):
     """What every place of the proof is handed: the invariants and measures of its loops."""
-    match = re.search(r"(?m)^\S+ : tie\.Need-[^\s]+((?: (?:Inv|μ)-\S+)*)$", text)
+    match = re.search(r"(?m)^\S+ : tie\.Need-[^\s]+((?: (?:invariant|decreases)-\S+)*)$", text)
     return match.group(1) if match else ""
 
 
@@ -418,7 +407,7 @@ def top(proof):
     """Where names of places go: above the first definition that comes behind the imports, the invariants and the measures."""
     behind = 0
     for item in proof.items:
-        if item.kind == "use" or item.name.startswith(("Inv-", "μ-")):
+        if item.kind == "use" or item.name.startswith(("invariant-", "decreases-")):
             behind = item.end
     rest = proof.text[behind:]
     return behind + len(rest) - len(rest.lstrip("\n"))
@@ -445,17 +434,37 @@ def shared(clause, ways):
     for way in used_again(body, head.split()[1:], ways):
         name = let_name(way.split()[0])
         if name not in {token.text for token in syntax.tokens(clause)}:
-            body = re.sub(rf"\({re.escape(way)}\)|(?<![\w′-]){re.escape(way)}(?![\w′.-])", name, body)
+            body = re.sub(rf"\({re.escape(way)}\)|(?<![\w'-]){re.escape(way)}(?![\w'.-])", name, body)
             lets += f"    let {name} = {way} in\n"
-    match = re.search(r"let after = ([A-Z][\w′-]*) [^.\n]* in\n", body)
+    match = re.search(r"let after = ([A-Z][\w'-]*) [^.\n]* in\n", body)
     if match and let_name(match.group(1)) not in {token.text for token in syntax.tokens(clause + lets)}:
-        body = re.sub(r"(?<![\w′.-])after(?![\w′-])", let_name(match.group(1)), body)
+        body = re.sub(r"(?<![\w'.-])after(?![\w'-])", let_name(match.group(1)), body)
     return head + (f" =\n{lets}    {body.lstrip()}" if lets else f" ={body}")
 
 
 def named(text, function, source="", but=()):
-    """A proof whose long ways go by names, but in some definitions."""
+    """A proof whose facts stand without a way and whose long ways go by names, but in some definitions."""
     places = Places(function)
+    return syntax.tight(with_names(flat(syntax.loose(text), places, but), places, source, but))
+
+
+def flat(text, places, but=()):
+    """A loose proof whose paths to facts have no `.before` where the place that they begin at has the fact under its name."""
+    cuts = []
+    for way in Proof(text, places).ways():
+        fact = re.match(rf"\s+\.({syntax.NAME})", text[way.end :])
+        chain = places.chain(way.place)[: way.back + 1]
+        has = [place for place in chain if fact and fact.group(1) in dict(places.function.records.get(place, ()))]
+        if way.owner not in but and way.head.isidentifier() and has == chain[-1:]:
+            cuts.append((way.end - len(" .before") * way.back, way.end))
+    for start, end in sorted(cuts, reverse=True):
+        if text[start:end].split() == [".before"] * ((end - start) // len(" .before")):
+            text = text[:start] + text[end:]
+    return text
+
+
+def with_names(text, places, source, but):
+    """A loose proof whose long ways go by names."""
     proof = Proof(text, places)
     ways = [way for way in proof.ways() if way.owner not in but and way.back > MOST_BEFORE]
     given = {link: name for name, link in proof.links.items()}

@@ -7,6 +7,8 @@ NAME = r"[^\s(){}.;,@\"«»]+"
 TOKEN = re.compile(rf"--[^\n]*|\"(?:\\.|[^\"\\])*\"|«[^»]*»|[(){{}},;@]|{NAME}(?:\.{NAME})*|\.{NAME}|\.")
 OPERATOR = re.compile(r"[^\w_.«\"(){}]+$")
 MARKS = {"abbrev", "pub", "unfoldable"}
+# What Rattle makes of a function: a path that begins so is a name.
+MADE = {"tie", "goal"}
 CLOSING = {"(": ")", "{": "}"}
 
 # What an expression may stand behind: there, and not behind another part of an application, a path begins.
@@ -26,6 +28,31 @@ class Item(NamedTuple):
     name: str
     start: int
     end: int
+
+
+def loose(text):
+    """A proof with each projection as a word of its own, `c .before .args` for `c.before.args`; names of modules and imports stay."""
+    parts, last = [], 0
+    for match in TOKEN.finditer(text):
+        word = match.group()
+        line = text[text.rfind("\n", 0, match.start()) + 1 : match.start()]
+        if line.startswith("use ") or word.startswith(("--", '"', "«")) or "." not in word or word == ".":
+            continue
+        first, *rest = word.split(".")
+        if first in MADE or first[:1].isupper() or not rest:
+            continue
+        spaced = " ".join([first, *(f".{part}" for part in rest)]) if first else f" .{rest[0]}"
+        parts += [text[last : match.start()], spaced]
+        last = match.end()
+    return "".join([*parts, text[last:]])
+
+
+LOOSE = re.compile(rf"(--[^\n]*|\"(?:\\.|[^\"\\])*\")|(?<=[^\s(,=:.λ{{;]) (?=\.(?![.]){NAME})")
+
+
+def tight(text):
+    """A proof as it is written, `c.before.args`, of a loose one."""
+    return LOOSE.sub(lambda match: match.group(1) or "", text)
 
 
 def tokens(text, start=0, end=None):
@@ -90,7 +117,7 @@ def without_idle_imports(old, new):
     before, after = cited(old), cited(new)
 
     def is_in(name, words):
-        return all(part in words for part in name.split("_") if part) if "_" in name else name in words
+        return all(part in words for part in name.split("◌") if part) if "◌" in name else name in words
 
     def kept(match):
         names = [name.strip() for name in match.group(2).split(",") if name.strip()]
