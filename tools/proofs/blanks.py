@@ -11,18 +11,20 @@ TACTICS = {"rw", "simp", "omega", "search", "cc", "let", "in", "ap", "sym", "abs
 
 
 def candidates(text, item):
-    """The spans of a clause's arguments that may be left out, in order; none lies within another. Of a loose proof."""
+    """The spans of a clause's arguments that may be left out, in order; none lies within another."""
     words = syntax.tokens(text, item.start, item.end)
     found, i = [], next((i for i, token in enumerate(words) if token.text == "="), len(words)) + 1
     while i < len(words):
-        if words[i].text == "(" and not syntax.begins_a_path(words, i) and words[i - 1].text not in TACTICS:
-            past = syntax.past(words, i)
-            inside = [token.text for token in words[i + 1 : past - 1]]
-            if is_data(inside):
+        past = i + 1
+        if syntax.is_argument(words, i) and words[i - 1].text not in TACTICS and not words[i].text.startswith("."):
+            is_group = words[i].text == "("
+            past = syntax.past(words, i) if is_group else syntax.path_end(words, i)
+            inside = [token.text for token in (words[i + 1 : past - 1] if is_group else words[i:past])]
+            if len(inside) > 1 and is_data(inside):
                 found.append((words[i].start, words[past - 1].end))
-                i = past
-                continue
-        i += 1
+            elif is_group:
+                past = i + 1
+        i = past
     return found
 
 

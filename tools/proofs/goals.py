@@ -22,7 +22,7 @@ NOTE = re.compile(r"note: |help: |.*: note: ")
 FOLLOWS = re.compile(r".*: error: .* was not admitted \(")
 PROVED = re.compile(r"fn .*: (?:proved|no holes)$")
 COUNTS = re.compile(
-    r"(?:struct|enum|library|statements|axioms|linked|logic /|crate |checked |started=|generated=)"
+    r"(?:struct|enum|library|statements|axioms|linked|logic /|crate |checked |started=|generated=|holes=)"
     r"|rt: (?:chose |rt |\w+: begins with )|.*: (?:proved|no holes)$"
 )
 

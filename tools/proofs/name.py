@@ -55,7 +55,7 @@ class File:
     def __init__(self, text, reading, is_plain):
         self.old, self.reading, self.width, self.by_one, self.is_out = text, reading, ANSWER, 0, False
         able = {answer.name for answer in shorten.answers(text.split("\n")) if not is_plain and shorten.searched_by(answer)}
-        counts = {} if is_plain else blanks.counted(syntax.loose(text))
+        counts = {} if is_plain else blanks.counted(text)
         self.trials = {name: Trial(name in able, counts.get(name, 0)) for name in defined(text)}
 
     def but(self, is_out):
@@ -67,7 +67,7 @@ class File:
         text = shorten.searched(self.old, self.but(lambda trial: not trial.searches))
         if self.reading:
             text = naming.named(text, *self.reading, but=self.but(lambda trial: not trial.is_named))
-        text = syntax.tight(blanks.blanked(syntax.loose(text), {name: trial.blanks() for name, trial in self.trials.items()}))
+        text = blanks.blanked(text, {name: trial.blanks() for name, trial in self.trials.items()})
         # What is still tried stays where an error tells its name.
         stays = self.but(lambda trial: not trial.is_inlined or not trial.is_settled())
         text = shorten.inlined(text, self.width, stays) if "tie.spec" in text else shorten.without_plain(text, stays)
@@ -83,7 +83,7 @@ class File:
             if name not in refused:
                 trial.admit()
             elif name in alone:
-                gives_way |= trial.refuse(blanks.undetermined(syntax.loose(self.old), now, name, trial.blanks(), unsolved.get(name, ())))
+                gives_way |= trial.refuse(blanks.undetermined(self.old, now, name, trial.blanks(), unsolved.get(name, ())))
             else:
                 gives_way, trial.is_inlined, self.by_one = True, False, self.by_one + 1
         if refused and is_late:

@@ -161,7 +161,7 @@ class Proof:
         while i < len(words):
             word = words[i].text
             if word == "let" and i + 2 < len(words) and words[i + 2].text == "=":
-                path = self.path(words, i + 3, scope)
+                path = self.applied(words, i + 3, scope)
                 is_place = path and path[1] < len(words) and words[path[1]].text == "in"
                 scope[words[i + 1].text] = path[0] if is_place else None
                 i += 3
@@ -171,7 +171,7 @@ class Proof:
                         break
                     scope.pop(token.text, None)
                 i += 1
-            elif syntax.begins_a_path(words, i) and (path := self.path(words, i, scope)):
+            elif not word.startswith(".") and (path := self.path(words, i, scope)):
                 self.add(item, words, i, path, scope, found)
                 # What a name is applied to may have a path of its own.
                 i = path[1] if word in scope else i + 1
@@ -192,25 +192,21 @@ class Proof:
         """The place of the path at i, and where it ends; nothing where no place is known."""
         if i >= len(words):
             return None
-        word = words[i].text
-        if scope.get(word):
-            place, j = scope[word], i + 1
-        elif word in self.links and i + 1 < len(words):
-            if words[i + 1].text == "(":
-                j = syntax.past(words, i + 1)
-                inner = self.path(words, i + 2, scope)
-                if not inner or inner[1] != j - 1:
-                    return None
-                place = self.links[word].target
-            elif scope.get(words[i + 1].text):
-                place, j = self.links[word].target, i + 2
-            else:
-                return None
-        else:
-            return None
-        while place and j < len(words) and words[j].text == ".before":
+        place, j = scope.get(words[i].text), i + 1
+        if words[i].text == "(":
+            j = syntax.past(words, i)
+            inner = self.applied(words, i + 1, scope)
+            place = inner[0] if inner and inner[1] == j - 1 else None
+        while place and j < len(words) and words[j].text == ".before" and words[j].start == words[j - 1].end:
             place, j = self.places.back(place, 1), j + 1
         return (place, j) if place else None
+
+    def applied(self, words, i, scope):
+        """The place that a name for a way gives, applied to a path, or that a path gives by itself."""
+        if i < len(words) and words[i].text in self.links:
+            argument = self.path(words, i + 1, scope)
+            return (self.links[words[i].text].target, argument[1]) if argument else None
+        return self.path(words, i, scope)
 
 
 # --- Which names a proof is to have ---
@@ -378,15 +374,16 @@ def arguments_of(text):
 
 
 def written(head, chain, length, links, names):
-    """A way along a chain of places, from a head, with the names of its links."""
+    """A way along a chain of places, from a head, with the names of its links; whether the last of it is such a name applied."""
     at = {place: i for i, place in enumerate(chain)}
-    i, words, is_one = 0, head, True
+    i, words, is_applied = 0, head, False
     for link in route(chain, length, links)[1]:
-        words += " .before" * (at[link.source] - i)
-        is_one = is_one and at[link.source] == i and " " not in head
-        words = f"{names[link]} {words if is_one else f'({words})'}"
-        i, is_one = at[link.target], False
-    return words + " .before" * (length - i)
+        steps = at[link.source] - i
+        words = f"({words})" if is_applied else words
+        words, i, is_applied = f"{names[link]} {words}{'.before' * steps}", at[link.target], True
+    if is_applied and length > i:
+        words, is_applied = f"({words})", False
+    return words + ".before" * (length - i), is_applied
 
 
 def declarations(places, links, names, handed, source):
@@ -397,7 +394,7 @@ def declarations(places, links, names, handed, source):
         lines += [
             f"-- back to {known_at(places, link.target, source)}",
             f"abbrev {names[link]} : tie.{link.source}{handed} → tie.{link.target}{handed}",
-            f"{names[link]} c = c{' .before' * back}",
+            f"{names[link]} c = c{'.before' * back}",
             "",
         ]
     return lines
@@ -445,26 +442,25 @@ def shared(clause, ways):
 def named(text, function, source="", but=()):
     """A proof whose facts stand without a way and whose long ways go by names, but in some definitions."""
     places = Places(function)
-    return syntax.tight(with_names(flat(syntax.loose(text), places, but), places, source, but))
+    return with_names(flat(text, places, but), places, source, but)
 
 
 def flat(text, places, but=()):
-    """A loose proof whose paths to facts have no `.before` where the place that they begin at has the fact under its name."""
+    """A proof whose paths to facts have no `.before` where the place that they begin at has the fact under its name."""
     cuts = []
     for way in Proof(text, places).ways():
-        fact = re.match(rf"\s+\.({syntax.NAME})", text[way.end :])
+        fact = re.match(rf"\.({syntax.NAME})", text[way.end :])
         chain = places.chain(way.place)[: way.back + 1]
         has = [place for place in chain if fact and fact.group(1) in dict(places.function.records.get(place, ()))]
         if way.owner not in but and way.head.isidentifier() and has == chain[-1:]:
-            cuts.append((way.end - len(" .before") * way.back, way.end))
+            cuts.append((way.end - len(".before") * way.back, way.end))
     for start, end in sorted(cuts, reverse=True):
-        if text[start:end].split() == [".before"] * ((end - start) // len(" .before")):
-            text = text[:start] + text[end:]
+        text = text[:start] + text[end:]
     return text
 
 
 def with_names(text, places, source, but):
-    """A loose proof whose long ways go by names."""
+    """A proof whose long ways go by names."""
     proof = Proof(text, places)
     ways = [way for way in proof.ways() if way.owner not in but and way.back > MOST_BEFORE]
     given = {link: name for name, link in proof.links.items()}
@@ -472,10 +468,12 @@ def with_names(text, places, source, but):
     names = {**names_for(places, links, source, {token.text for token in syntax.tokens(text)}), **given}
     taken = {}
     for way in sorted(ways, key=lambda each: -each.start):
-        words = written(way.head, places.chain(way.place), way.back, [*given, *links], names)
-        text = text[: way.start] + words + text[way.end :]
+        words, is_applied = written(way.head, places.chain(way.place), way.back, [*given, *links], names)
+        by_itself = re.search(r"(\(|= )$", text[: way.start]) and re.match(r"\)(?!\.)| in\b|\n\S|\n*$", text[way.end :])
+        text = text[: way.start] + (f"({words})" if is_applied and not by_itself else words) + text[way.end :]
         if way.kind == "clause":
-            taken.setdefault(way.owner, []).append(re.sub(r"( \.before)+$", "", words))
+            words = re.sub(r"(\.before)+$", "", words)
+            taken.setdefault(way.owner, []).append(words[1:-1] if words.startswith("(") else words)
     for item in reversed(syntax.items(text)):
         if item.kind == "clause" and item.name in taken:
             text = text[: item.start] + shared(text[item.start : item.end], taken[item.name]) + text[item.end :]

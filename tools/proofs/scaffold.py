@@ -6,7 +6,7 @@ from pathlib import Path
 from proofs import kit
 
 WITHOUT = re.compile(r"fn (\S+): no proof\b")
-SOURCE_PLACE = re.compile(r"(?m)^\s*-- src/\S+:\d+:\d+\n")
+SOURCE_PLACE = re.compile(r"(?m)^ *-- src/\S+:\d+:\d+\n")
 
 
 def tidy(text):

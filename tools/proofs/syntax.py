@@ -30,37 +30,21 @@ class Item(NamedTuple):
     end: int
 
 
-def loose(text):
-    """A proof with each projection as a word of its own, `c .before .args` for `c.before.args`; names of modules and imports stay."""
-    parts, last = [], 0
-    for match in TOKEN.finditer(text):
-        word = match.group()
-        line = text[text.rfind("\n", 0, match.start()) + 1 : match.start()]
-        if line.startswith("use ") or word.startswith(("--", '"', "«")) or "." not in word or word == ".":
-            continue
-        first, *rest = word.split(".")
-        if first in MADE or first[:1].isupper() or not rest:
-            continue
-        spaced = " ".join([first, *(f".{part}" for part in rest)]) if first else f" .{rest[0]}"
-        parts += [text[last : match.start()], spaced]
-        last = match.end()
-    return "".join([*parts, text[last:]])
-
-
-LOOSE = re.compile(rf"(--[^\n]*|\"(?:\\.|[^\"\\])*\")|(?<=[^\s(,=:.λ{{;]) (?=\.(?![.]){NAME})")
-
-
-def tight(text):
-    """A proof as it is written, `c.before.args`, of a loose one."""
-    return LOOSE.sub(lambda match: match.group(1) or "", text)
-
-
 def tokens(text, start=0, end=None):
-    end = len(text) if end is None else end
-    found = []
+    """The words of a proof. A path is a word for each of its parts, `c`, `.before`, `.args`; the name of a module is one word."""
+    end, found = len(text) if end is None else end, []
     for match in TOKEN.finditer(text, start, end):
-        if not match.group().startswith("--"):
-            found.append(Token(match.group(), match.start(), match.end()))
+        word, at = match.group(), match.start()
+        if word.startswith("--"):
+            continue
+        parts = word.split(".")
+        if len(parts) > 1 and parts[0] and word[0] not in '"«' and parts[0] not in MADE and not parts[0][:1].isupper():
+            for n, part in enumerate(parts):
+                part = f".{part}" if n else part
+                found.append(Token(part, at, at + len(part)))
+                at += len(part)
+        else:
+            found.append(Token(word, at, match.end()))
     return found
 
 
@@ -100,8 +84,17 @@ def is_operator(word):
     return bool(OPERATOR.match(word)) and word not in ("→", "λ", ",", ";", "=", ":", "@")
 
 
-def begins_a_path(found, i):
-    return not i or found[i - 1].text in BEFORE_A_PATH or is_operator(found[i - 1].text)
+def is_argument(found, i):
+    """Whether the word at i stands behind another part of an application."""
+    return bool(i) and found[i - 1].text not in BEFORE_A_PATH and not is_operator(found[i - 1].text)
+
+
+def path_end(found, i):
+    """Where the parts of the path end that the word at i begins: the parts stand close together."""
+    j = i + 1
+    while j < len(found) and found[j].text.startswith(".") and len(found[j].text) > 1 and found[j].start == found[j - 1].end:
+        j += 1
+    return j
 
 
 IMPORT = re.compile(r"(?m)^use (\S+)\.\{([^{}]*)\}\n")
