@@ -429,6 +429,7 @@ class Goals(ProofTest):
     def test_names_of_other_crates_keep_their_file(self):
         self.assertEqual(goals.short("Rattle.rules.specs.Sweep.sweep (Rattle.rules.specs.Bounds.most)"), "Sweep.sweep (Bounds.most)")
         self.assertEqual(goals.short("Rattle.book.proofs.queue.insert.Lts.T0"), "lts.T0")
+        self.assertEqual(goals.short("add `use Rattle.std.proofs.Common.{arith}` to `Rattle.a.proofs.B`"), "add `use Rattle.std.proofs.Common.{arith}` to `B`")
         self.assertEqual(goals.short("Rattle.check.proofs.expect.Reads.Asked"), "expect-reads.Asked")
 
     def test_lines_are_cut(self):
@@ -655,6 +656,24 @@ class Shorten(ProofTest):
             "x_spec = tie.close (tie.spec\n    (λ c. omega arith)  -- first\n"
             "    (λ c. omega arith)  -- second\n    (λ c. omega arith))  -- third\n",
         )
+
+    def test_an_answer_that_rattle_finds_by_itself_goes(self):
+        """But not one that another names, one with a comment, and not the last."""
+        text = "use A as goal\n\n"
+        for name, answer in (("first", "search rules"), ("second", "law first"), ("third", "search rules"), ("fourth", "search law")):
+            text += f"pub {name} : goal.{name}\n{name} c = {answer}\n\n"
+        self.assertEqual(shorten.without_plain(text), text.replace("pub third : goal.third\nthird c = search rules\n\n", ""))
+        alone = "-- why\npub first : goal.first\nfirst c = search rules\n"
+        self.assertEqual(shorten.without_plain(alone), alone)
+        self.assertEqual(shorten.without_plain(alone.replace("-- why\n", "")), alone.replace("-- why\n", ""))
+
+    def test_files_of_answers(self):
+        self.write("crates/tiny/proofs/pick/Proof.antt", "")
+        answers = "use A as goal\n\npub a : goal.a\na c = law c.f.ensures c.requires\n\npub b : goal.b\nb c = refused _\n\npub d : goal.d\nd c = search rules\n"
+        path = "crates/tiny/proofs/other/Answers.antt"
+        self.write(path, answers.replace("refused _", "other c.requires"))
+        self.proof("shorten", "tiny")
+        self.assertEqual(self.text(path), "use A as goal\n\npub a : goal.a\na c = search law\n\npub b : goal.b\nb c = other c.requires\n")
 
     def test_a_proof_that_would_be_longer_stays(self):
         names = [f"need-{number}" for number in range(8)]
@@ -962,7 +981,7 @@ class WithTheKit(ProofTest):
         self.assertNotRegex(text, "-- src/")
         self.write(invariants, re.sub(r"(?m)^(invariant-loop-i l =) \?$", rf"\1 {self.INVARIANT}", self.text(invariants)))
         text = re.sub(r"(?m)^(returns c =) \?$", r"\1 omega arith", text)
-        self.write(answers, re.sub(r"(?m)^(\S+ c =) \?$", r"\1 search rules", text))
+        self.write(answers, re.sub(r"(?m)^(\S+ c =) \?$", r"\1 search rules", text).replace("{rules,", "{rules, arith,"))
 
         way, _ = self.proof("places", "tiny", "total", "overflow_add-sum")
         self.assertIn("    c.loop-i {sum, i, invariant", way)

@@ -28,9 +28,10 @@ COUNTS = re.compile(
 
 
 def short(line):
-    """A line with names in place of whole paths."""
-    line = PLACES.sub("", line)
-    return HANDED.sub("", READS.sub(r"\1-reads.", LTS.sub("lts.", line)))
+    """A line with names in place of whole paths. A line to be added to a file stays."""
+    parts = re.split(r"(`use [^`]*`)", line)
+    parts[::2] = [HANDED.sub("", READS.sub(r"\1-reads.", LTS.sub("lts.", PLACES.sub("", part)))) for part in parts[::2]]
+    return "".join(parts)
 
 
 def told(lines):
