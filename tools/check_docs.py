@@ -48,7 +48,7 @@ def words_of(top):
         if not where.startswith("docs") and os.path.isfile(path) and (path.endswith(SOURCES) or "." not in base):
             text = read(path)
             words.update(re.split(r"[\s(){}\[\];,.\"'`:|=<>!?]+", text))
-            words.update(re.findall(r"[\w·′ℤ→≡+*∷-]+", text))
+            words.update(re.findall(r"[\w·'ℤ→≡+*∷◌-]+", text))
             words.update(re.findall(r"\w+", text))
     return words
 

@@ -1,6 +1,6 @@
 """interface.py: what the library exports, read from its Rattle source: constants, records, calls, codes.
 
-A reader of the few forms that stand there (`pub const`, `#[repr(C)] pub struct`, `#[no_mangle] pub extern "C" fn`), not of the
+A reader of the few forms that stand there (`pub const`, `#[repr(C)] pub struct`, `#[unsafe(no_mangle)] pub extern "C" fn`), not of the
 language. What it does not know it refuses.
 """
 
@@ -172,7 +172,7 @@ class Interface:
     # The record of this name: of this file, or of the one that it is taken from by `use`.
     def struct(self, name, source):
         if not (found := re.search(STRUCT % name, source.text)):
-            used = re.search(rf"^use ([\w:]+)::{name};", source.text, re.MULTILINE)
+            used = re.search(rf"^use ([\w:]+)::(?:{name}|\{{[^}}]*\b{name}\b[^}}]*\}});", source.text, re.MULTILINE)
             if not used:
                 raise Unknown(f"{source.path}: no record {name} with #[repr(C)]")
             return self.struct(name, source_of(self.top, used[1], source.crate))
@@ -192,9 +192,9 @@ class Interface:
         return self.structs[name]
 
 
-STRUCT = r"#\[repr\(C\)\]\npub struct %s \{(?P<fields>[^}]*)\}"
+STRUCT = r"#\[repr\(C\)\]\n(?:#\[derive\([^\n]*\)\]\n)?pub struct %s \{(?P<fields>[^}]*)\}"
 CALL = re.compile(
-    r'#\[no_mangle\]\npub extern "C" fn (?P<name>\w+)(?:<[^>]*>)?\((?P<parameters>[^)]*)\) -> (?P<result>[^\n]+)'
+    r'#\[unsafe\(no_mangle\)\]\npub extern "C" fn (?P<name>\w+)(?:<[^>]*>)?\((?P<parameters>[^)]*)\) -> (?P<result>[^\n]+)'
 )
 
 
@@ -324,7 +324,7 @@ def codes(top):
 def check_words(top, struct):
     """The words of a record in its area stand in the order of its fields."""
     text = (top / "crates/rules/specs/Memory.antt").read_text()
-    name = struct.name.lower() + "Words"
+    name = struct.name.lower() + "_words"
     told = re.search(rf"^{name} \w+ =\s*(.+)$", text, re.MULTILINE)
     if not told or re.findall(r"\.(\w+) ∷", told[1]) != [field.name for field in struct.fields]:
         raise Unknown(f"the words of {struct.name} are not its fields in turn")

@@ -1,7 +1,8 @@
 #!/usr/bin/env python3
 """make_header.py: makes include/zelvorm.h, and the same for Rust and for Python, from the Rattle source.
 
-    tools/make_header.py            makes include/zelvorm.h, include/zelvorm.rs, include/zelvorm.py, and include/zelvorm.map
+    tools/make_header.py            makes include/zelvorm.h, include/zelvorm.rs, include/zelvorm.py, and include/zelvorm.map, and the
+                                    copies for Rust and Python in bindings/
     tools/make_header.py check      tells which of them is not what this tool makes; status 1 where there is one
 
 zelvorm.map names the calls for the linker: the shared library shows them and nothing else.
@@ -14,6 +15,9 @@ import textwrap
 from interface import TOP, Array, Interface, Slice, size_of
 
 FOLDER = TOP / "include"
+
+# The wrappers have their own copy: the gate refuses links.
+COPIES = {"bindings/python/zelvorm/raw.py": "zelvorm.py", "bindings/rust/src/raw.rs": "zelvorm.rs"}
 
 MADE = "Made by tools/make_header.py from crates/exports and the records that it uses. Do not edit."
 
@@ -513,7 +517,8 @@ def made_files(top=TOP):
     """The content of every file that is made, by its path."""
     interface = Interface(top)
     makers = {"zelvorm.h": c_header, "zelvorm.rs": rust_module, "zelvorm.py": python_module, "zelvorm.map": linker_map}
-    return {top / "include" / name: "\n".join(maker(interface)) + "\n" for name, maker in makers.items()}
+    files = {top / "include" / name: "\n".join(maker(interface)) + "\n" for name, maker in makers.items()}
+    return files | {top / copy: files[top / "include" / name] for copy, name in COPIES.items()}
 
 
 def main():

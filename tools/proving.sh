@@ -4,9 +4,9 @@
 
 has() { command -v "$1" >/dev/null 2>&1; }
 
-# What is proved and built, as one hash.
+# What is proved and built, as one hash. What rt leaves in a crate's out/ is no source.
 sources_hash() {
-    (cd "$top" && { sha256sum crates.txt VERSION && find crates include -type f ! -path '*/__pycache__/*' -exec sha256sum {} +; } |
+    (cd "$top" && { sha256sum crates.txt VERSION && find crates include -type f ! -path '*/__pycache__/*' ! -path 'crates/*/out/*' -exec sha256sum {} +; } |
         LC_ALL=C sort | sha256sum | cut -d ' ' -f 1)
 }
 
@@ -37,7 +37,7 @@ count_needed() { crates_needed "$1" | wc -l | tr -d ' '; }
 
 worker='' starting='' lines_seen=0 last_told=0
 
-# Proves by a command in the top folder, with the lock, and tells how it goes. Its words go to the log. Its status.
+# Proves by a command in the crate's folder, with the lock, and tells how it goes. Its words go to the log. Its status.
 prove() { # CRATE LOG COMMAND ..
     crate=$1 log=$2
     shift 2
@@ -76,7 +76,7 @@ start() { # COMMAND ..
         watch=$!
         wait "$work" && status=0 || status=$?
         kill "$watch"
-        exit "$status"' sh "$$" "$top" "$@" </dev/null >>"$log" 2>&1 9>&9 &
+        exit "$status"' sh "$$" "$top/crates/$crate" "$@" </dev/null >>"$log" 2>&1 9>&9 &
     worker=$!
     starting=''
 }
@@ -111,47 +111,46 @@ tell_progress() {
     [ $((now - last_told)) -lt "$QUIET" ] || { tell_at_work && last_told=$now; }
 }
 
-# Tells each crate of the log that was not told yet.
+# Tells each crate of the log that was not told yet. rt proves the crates that have changed, the lowest first, and says nothing of the
+# others.
 tell_proved() {
     lines=$(wc -l <"$log")
     [ "$lines" -gt "$lines_seen" ] || return 0
-    new=$(awk -v seen="$lines_seen" -v last="$lines" -v needed="$(count_needed "$crate")" '
+    new=$(awk -v seen="$lines_seen" -v last="$lines" -v needed="$(crates_needed "$crate" | tr '\n' ' ')" '
+        BEGIN { count = split(needed, words, " "); for (k = 1; k <= count; k++) place[words[k]] = k }
         NR > last { exit }
-        !/^rt: .* proved \(/ { next }
-        { proved++ }
-        NR > seen && !/\(unchanged/ { print proved " of " needed ": " substr($0, 5) }' "$log")
+        /^crate [^ ]+: modules/ { name = substr($2, 1, length($2) - 1) }
+        /^logic=proved/ && name in place { if (NR > seen) print place[name] " of " count ": " name " proved" }' "$log")
     lines_seen=$lines
     [ -n "$new" ] || return 0
     printf '%s\n' "$new" | while IFS= read -r line; do say "$line"; done
     last_told=$(date +%s)
 }
 
-# What rt has proved and has at work by its folder of logs; how long that takes by the seconds of another machine, and the
-# time that has passed here.
+# What rt has proved and has at work by its log; how long that takes by the seconds of another machine, and the time that has passed
+# here. What comes before a crate that is told is proved.
 tell_at_work() {
     began=$top/target/proof.began
-    if [ ! -d "$top/target/log" ] || [ ! -s "$began" ]; then return 0; fi
+    if [ ! -s "$log" ] || [ ! -s "$began" ]; then return 0; fi
     words=$({
         sed 's/^/seconds /' "$top/tools/proving-seconds.txt"
         crates_needed "$crate" | sed 's/^/needed /'
-        find "$top/target/log" -name '*.res' -newer "$began" | while IFS= read -r found; do
-            one=${found##*/}
-            printf 'state %s %s\n' "${one%.res}" "$(cat "$found")"
-        done
+        sed 's/^/log /' "$log"
     } | awk -v passed="$(($(date +%s) - $(cat "$began")))" '
         $1 == "seconds" { seconds[$2] = $3 }
-        $1 == "needed" { needed[++count] = $2 }
-        $1 == "state" { state[$2] = $3 }
+        $1 == "needed" { needed[++count] = $2; place[$2] = count }
+        /^log rt: chose / { at = $NF }
+        /^log crate [^ ]+: modules/ { at = substr($3, 1, length($3) - 1) }
+        /^log logic=proved/ && at in place { proved[at]; done = place[at] }
         END {
+            if (place[at] > done) done = place[at] - 1
+            else at = needed[done + 1]
             for (k = 1; k <= count; k++) {
                 name = needed[k]
                 cost = name in seconds ? seconds[name] : 15
-                if (name in state && state[name] ~ /^(proved|built)$/) { done++; spent += cost; continue }
-                left += cost
-                last = name
-                if (name in state) at = at (at ? ", " : "") name
+                if (k > done) left += cost
+                else if (name in proved) spent += cost
             }
-            if (!at && done == count - 1) at = last
             rate = spent > 30 ? passed / spent : 0.8
             minutes = int(left * rate / 60 + 0.5)
             printf "%d of %d crates proved", done, count

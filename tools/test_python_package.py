@@ -26,7 +26,7 @@ class Wheel(unittest.TestCase):
     def test_backend(self):
         text = (PACKAGE / "pyproject.toml").read_text()
         self.assertIn("requires = []", text)
-        self.assertEqual((PACKAGE / "zelvorm" / "raw.py").resolve(), TOP / "include" / "zelvorm.py")
+        self.assertEqual((PACKAGE / "zelvorm" / "raw.py").read_bytes(), (TOP / "include" / "zelvorm.py").read_bytes())
 
     @unittest.skipUnless(library_is_current(), "target/library is not built for these sources: tools/build_library builds it")
     def test_wheel(self):

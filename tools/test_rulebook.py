@@ -99,15 +99,15 @@ class Content(unittest.TestCase):
         """"Market and best trade at the resting price.": as docs/RULES.md follows it."""
         row = next(row for row in book().rows if row.sentence == '"Market and best trade at the resting price."')
         behind = dict(book().behind[row.id])
-        self.assertIn("definition-rules-Matching-tradePrice", behind["Definition"])
+        self.assertIn("definition-rules-Matching-trade_price", behind["Definition"])
         self.assertIn("promise-prices-trade_price", behind["Promise"])
         self.assertIn("edit-prices-market_at_the_last_price", behind["Wrong engine, which the prover refuses"])
         self.assertIn("lesson-04-market-and-best", behind["Lesson"])
-        shown = words(article("definition-rules-Matching-tradePrice"))
-        self.assertIn("tradePrice method Market price last = price", shown)
+        shown = words(article("definition-rules-Matching-trade_price"))
+        self.assertIn("trade_price method Market price last = price", shown)
         self.assertIn("The price of a trade: a limit order's by the method", shown)
         self.assertIn(row.number, shown)
-        self.assertIn("ensures { λ r. ⌜ r ≡ matching.tradePrice method condition price last ⌝ }", words(article("promise-prices-trade_price")))
+        self.assertIn("ensures { result ≡ matching.trade_price method condition price last }", words(article("promise-prices-trade_price")))
 
     def test_every_lesson_of_the_ladder_shows_a_sentence(self):
         for name in book().lessons:
@@ -129,7 +129,7 @@ class Content(unittest.TestCase):
         text = (
             "# x\n\n## What follows from the rules\n\nLaws.\n\n### Touch\n\nCases in `MatchingExamples`.\n\n"
             "| law | definition | theorem |\n|---|---|---|\n"
-            "| 1. Nobody removes another's order. | Matching: `sweep` | `auction-lots` |\n\n### Money\n\n"
+            "| 1. Nobody removes another's order. | Matching: `sweep` | `auction_lots` |\n\n### Money\n\n"
             "| law | definition |\n|---|---|\n| 2. None is made. | Condition3: `MoneyKept` |\n"
         )
         (section,) = read_sections(text, Sources(TOP), {})
@@ -137,7 +137,7 @@ class Content(unittest.TestCase):
         self.assertEqual([row.number for row in section.rows], ["1.1", "1.2"])
         first = section.rows[0]
         self.assertEqual(first.named("definition"), ["definition-rules-Matching-sweep"])
-        self.assertEqual(first.named("law"), ["law-theory-AuctionOutcome-auction-lots"])
+        self.assertEqual(first.named("law"), ["law-theory-AuctionOutcome-auction_lots"])
         self.assertEqual(first.named("case"), ["case-rules-MatchingExamples"])
 
 
@@ -226,9 +226,9 @@ class InABrowser(unittest.TestCase):
         self.browser.click(f"#{row.id}")
         shown = self.panel()
         for part in (
-            "tradePrice method Market price last = price",
+            "trade_price method Market price last = price",
             "The price of a trade: a limit order's by the method",
-            "r ≡ matching.tradePrice method condition price last",
+            "r ≡ matching.trade_price method condition price last",
             "market takes all, each at the resting price",
             "\u2212 PriceCondition::Market => price,",
             "+ PriceCondition::Market => last,",

@@ -26,35 +26,31 @@ MET = "25 expectations met\n"
 
 # What ./run and the stand-in call.
 COMMANDS = (
-    "awk cat cp date dirname find flock head mkdir mktemp mv od readlink rm rmdir sed setsid sh sha256sum sleep sort touch tr wc"
+    "awk basename cat cp date dirname find flock head mkdir mktemp mv od readlink rm rmdir sed setsid sh sha256sum sleep sort touch tr wc"
 ).split()
 
 KIT = """#!/bin/sh
 kit={kit}
 case $1 in
 version) cat "$kit/version" ;;
-check)
+run)
     mkdir "$kit/busy" || {{ touch "$kit/clash"; exit 2; }}
     trap 'rmdir "$kit/busy"; exit 143' TERM
-    echo "$*" >>"$kit/calls"
-    how='1 s'
-    [ ! -e target/stamp/dayrun ] || how='unchanged since it was last proved'
-    mkdir -p target/log
-    echo proved >target/log/one.res
-    echo failed >target/log/two.res
-    echo "rt: one proved (1 s)"
-    echo "logic=proved"
+    echo "$* in $(basename "$PWD")" >>"$kit/calls"
+    echo "crate one: modules loaded=1 checked=1"
+    echo "logic=proved functions=1"
+    echo "rt: chose --jobs 2 for two"
     # As rt does: a background command, which does not take Ctrl-C.
     sleep "$(cat "$kit/seconds")" &
     echo $! >"$kit/new"
     mv "$kit/new" "$kit/prover"
     wait $!
-    echo "rt: two proved (unchanged since it was last proved)"
-    if [ -e "$kit/edit" ]; then rm "$kit/edit"; echo more >>crates/one/src/lib.rt; fi
-    if [ -e "$kit/fails" ]; then echo "rt: dayrun NOT PROVED (exit 1, 0 s)"; rmdir "$kit/busy"; exit 1; fi
-    echo "rt: dayrun proved ($how)"
-    mkdir -p target/bin target/stamp
-    if [ ! -e target/stamp/dayrun ]; then cp "$kit/dayrun" target/bin/dayrun; touch target/stamp/dayrun; fi
+    if [ -e "$kit/edit" ]; then rm "$kit/edit"; echo more >>../one/src/lib.rt; fi
+    echo "crate dayrun: modules loaded=1 checked=1"
+    if [ -e "$kit/fails" ]; then echo "logic=not-proved"; rmdir "$kit/busy"; exit 1; fi
+    echo "logic=proved functions=1"
+    mkdir -p out
+    if [ ! -e out/dayrun.stamp ]; then cp "$kit/dayrun" out/dayrun; touch out/dayrun.stamp; fi
     rmdir "$kit/busy"
     ;;
 esac
@@ -77,7 +73,7 @@ class RunTest(unittest.TestCase):
         self.kit = self.room / "kit"
         self.bin = self.room / "bin"
         self.temporary = self.room / "tmp"
-        for folder in (self.top / "crates" / "one" / "src", self.top / "crates" / "two" / "src", self.kit, self.bin):
+        for folder in (self.top / "crates" / "one" / "src", self.top / "crates" / "two" / "src", self.top / "crates" / "dayrun", self.kit, self.bin):
             folder.mkdir(parents=True)
         self.temporary.mkdir()
         self.temporary.chmod(0o1777)
@@ -122,7 +118,7 @@ class RunTest(unittest.TestCase):
     def calls(self):
         """How often the kit was asked to prove."""
         path = self.kit / "calls"
-        return path.read_text().count("check dayrun\n") if path.exists() else 0
+        return path.read_text().count("run in dayrun\n") if path.exists() else 0
 
     def build(self):
         self.assertEqual(self.run_run(EXAMPLE)[:2], (0, LINES))
@@ -375,10 +371,10 @@ class Proving(RunTest):
 
     def test_crates_are_told(self):
         first = "run: proving and building the day runner, 3 crates: some minutes the first time, less after a change\n"
-        self.assert_calls(1, first + "run: 1 of 3: one proved (1 s)\nrun: 3 of 3: dayrun proved (1 s)\n")
+        self.assert_calls(1, first + "run: 1 of 3: one proved\nrun: 3 of 3: dayrun proved\n")
         self.assert_calls(1, "")
         log = (self.top / "target" / "run.log").read_text()
-        self.assertEqual(len(log.splitlines()), 4)
+        self.assertEqual(len(log.splitlines()), 5)
 
     def test_again_where_something_differs(self):
         self.assert_calls(1)
@@ -419,7 +415,7 @@ class Proving(RunTest):
         for calls in (1, 2):
             status, output, errors = self.run_run(EXAMPLE)
             self.assertEqual((status, output, self.calls()), (1, b"", calls))
-            self.assertIn("\nrt: dayrun NOT PROVED (exit 1, 0 s)\nrun: the day runner is not proved", errors)
+            self.assertIn("\nlogic=not-proved\nrun: the day runner is not proved", errors)
         (self.kit / "fails").unlink()
         self.assert_calls(3)
 

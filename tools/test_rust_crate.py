@@ -42,7 +42,7 @@ class Text(unittest.TestCase):
         root = (CRATE / "src" / "lib.rs").read_text()
         self.assertIn("#![deny(unsafe_code", root)
         self.assertEqual(root.count("allow(unsafe_code"), 1)
-        self.assertEqual((CRATE / "src" / "raw.rs").resolve(), TOP / "include" / "zelvorm.rs")
+        self.assertEqual((CRATE / "src" / "raw.rs").read_bytes(), (TOP / "include" / "zelvorm.rs").read_bytes())
 
 
 @unittest.skipUnless(shutil.which("cargo"), "no cargo here")

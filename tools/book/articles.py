@@ -123,7 +123,7 @@ def code_html(item, names):
     """A definition's text with the names that stand in it as links."""
     known = names.get(item.where, {})
     out = []
-    for part in re.split(r"([A-Za-z_][\w′ℤ-]*)", item.text):
+    for part in re.split(r"([A-Za-z_][\w'ℤ-]*)", item.text):
         target = known.get(part)
         out.append(link(target, escaped(part)) if target and target != item.id else escaped(part))
     return "".join(out)

@@ -127,7 +127,7 @@ class Sources:
         """The names that a file takes from others, with the crate and file that each is from."""
         found = {}
         for crate, file, names in re.findall(
-            r"(?m)^use (?:Rattle·(\w+)(?:·\w+)?\.)?(?:[\w·]+\.)*?(\w+)\.\{([^}]*)\}", Path(path).read_text(encoding="utf-8")
+            r"(?m)^use (?:Rattle\.(\w+)\.)?(?:\w+\.)*?(\w+)\.\{([^}]*)\}", Path(path).read_text(encoding="utf-8")
         ):
             found.update({name.strip(): (crate, file) for name in names.split(",")})
         return found

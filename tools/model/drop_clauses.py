@@ -13,12 +13,11 @@ definition any more (a name that is not in scope, a type that does not fit) is t
     tools/model/drop_clauses.py rules --list         the edits, and nothing is checked
 
 It is no part of the gate: an edit takes about a second of processor, most of it the prover's start, and all of them some ten minutes.
-What a crate rests on must be proved already (`rt check`): the folder target/ of the repository is copied. Ends with 1 where an edit is
+What a crate rests on must be proved already (`rt check` in its folder): it is copied with what the check kept. Ends with 1 where an edit is
 unnoticed that neither list below has."""
 
 import argparse
 import itertools
-import os
 import re
 import shutil
 import subprocess
@@ -33,19 +32,20 @@ WORKED_CASES = re.compile(r"(\w*Examples|PaperDay)\.antt")
 VERDICTS = ("noticed", "unnoticed", "noticed above", "no definition", "no difference")
 
 # Where the words stand that an edit may bring in.
-HOMES = {"leb": "lib.Dec", "ltb": "lib.Dec", "min": "Prim.Native.Nat", "max": "Prim.Native.Nat", "leZ": "lib.Signed", "ltZ": "lib.Signed"}
+PRELUDE, SIGNED = "Rattle.std.specs.Prelude", "Rattle.std.specs.Int.Signed"
+HOMES = {"leb": PRELUDE, "ltb": PRELUDE, "min": PRELUDE, "max": PRELUDE, "le_z": SIGNED, "lt_z": SIGNED}
 
 # Edits that change no value on any input, by the words of the edit, with the reason.
 NO_DIFFERENCE = (
-    ("conditionsRefused: dropped, the first: isLimit (o .condition) &&", "good for day without a limit is 6 in every state"),
+    ("conditions_refused: dropped, the first: is_limit o.condition &&", "good for day without a limit is 6 in every state"),
     ("smaller: the end of the range: ltb a b", "where the two are equal, the next step decides"),
-    ("savedSound: dropped: && all (markSound bs)", "a state that is read with another mark is not well formed"),
+    ("saved_sound: dropped: && all (mark_sound bs)", "a state that is read with another mark is not well formed"),
 )
 
 # Edits that no worked case notices, by the words of the edit, with what does.
 ABOVE = (
-    ("sound: dropped: && leb (commandsIn file) maxCommands", "dayfile::file::sound; a file of 2,001 commands is too long for a worked case"),
-    ("sound: the end of the range: leb (commandsIn file) maxCommands", "dayfile::file::sound; a file of 2,000 commands is too long for a worked case"),
+    ("sound: dropped: && leb (commands_in file) max_commands", "dayfile::file::sound; a file of 2,001 commands is too long for a worked case"),
+    ("sound: the end of the range: leb (commands_in file) max_commands", "dayfile::file::sound; a file of 2,000 commands is too long for a worked case"),
 )
 
 
@@ -65,7 +65,7 @@ class Edit:
     def apply(self, source):
         edited = source[: self.start] + self.text + source[self.end :]
         for word, module in HOMES.items():
-            if re.search(rf"(?<![\w·-]){word}(?![\w·-])", self.text) and not re.search(rf"(?m)^use .*[{{ ]{word}[,}}]", source):
+            if re.search(rf"(?<![\w.'-]){word}(?![\w'-])", self.text) and not re.search(rf"(?m)^use .*[{{ ]{word}[,}}]", source):
                 edited = edited.replace("\nuse ", f"\nuse {module}.{{{word}}}\nuse ", 1)
         return edited
 
@@ -77,7 +77,7 @@ def argument_end(source, at):
         for i in range(at, len(source)):
             depth += {"(": 1, "[": 1, ")": -1, "]": -1}.get(source[i], 0)
             if depth == 0:
-                return i + 1
+                return re.compile(r"(?:\.[^\s()\[\];]+)?").match(source, i + 1).end()
     return re.compile(r"[^\s()\[\];]*").match(source, at).end()
 
 
@@ -146,7 +146,7 @@ def edits_of(path):
             if first is not None and between.strip() and not re.search(r"&&|\|\|", between):
                 add(name, f"dropped, the first: {' '.join(between.split())} {m.group()}", first, at + 2, "")
         # a comparison, a choice, a bound, a test turned round
-        for m in re.finditer(r"(?<![\w·.-])(leb|ltb|min|max|not|pick|eqb|leZ|ltZ)(?![\w·-])", text):
+        for m in re.finditer(r"(?<![\w'.-])(leb|ltb|min|max|not|pick|eqb|le_z|lt_z)(?![\w'-])", text):
             at, stop = eq + 2 + m.start(), eq + 2 + m.end()
             word = m.group()
             if word in ("leb", "ltb"):
@@ -168,8 +168,8 @@ def edits_of(path):
                 if places:
                     (b, c), (d, e) = places[1], places[2]
                     add(name, f"turned round: {' '.join(blank[at:e].split())[:90]}", b, e, f"{source[d:e]} {source[b:c]}")
-            elif word in ("leZ", "ltZ"):
-                add(name, f"the end of the range: {word}", at, stop, "ltZ" if word == "leZ" else "leZ")
+            elif word in ("le_z", "lt_z"):
+                add(name, f"the end of the range: {word}", at, stop, "lt_z" if word == "le_z" else "le_z")
     return found
 
 
@@ -241,7 +241,7 @@ def below(name, found):
 
 
 def listing(names, found):
-    """The lines of crates.txt of these crates, to the letter: a stamp of what is proved holds for its line as well."""
+    """The lines of crates.txt of these crates."""
     return "".join(" ".join([n + ":", *found[n]]) + "\n" for n in names)
 
 
@@ -265,10 +265,11 @@ def without_functions(source):
                 if depth == 0:
                     break
             at = i
-            if not before or before[-1] not in ("requires", "ensures", "measure", "decreases"):
+            # A clause may have a name behind its kind.
+            if not set(before[-2:]) & {"requires", "ensures", "requires*", "ensures*", "measure", "decreases"}:
                 break
         source = source[: m.start()] + source[at:]
-    source = re.sub(r"(?m)^\s*#\[no_mangle\]\n", "", source)
+    source = re.sub(r"(?m)^\s*#\[(?:unsafe\(no_mangle\)|tactic\(.*\))\]\n", "", source)
     return re.sub(r"(?m)^use (?:crate|super)::(?:\w+::)*(\{[a-z][^}]*\}|[a-z]\w*);\n", "", source)
 
 
@@ -278,12 +279,6 @@ def made_ready(name, folder):
     needed = below(name, found)
     for n in needed[:-1]:
         shutil.copytree(TOP / "crates" / n, folder / "crates" / n)
-    for part in ("rlib", "stamp"):
-        (folder / "target" / part).mkdir(parents=True)
-        for n in needed[:-1]:
-            for kept in (TOP / "target" / part).glob(f"{n}*"):
-                if kept.name.split(".")[0] == n:
-                    (shutil.copytree if kept.is_dir() else shutil.copy)(kept, folder / "target" / part / kept.name)
     crate = folder / "crates" / name
     shutil.copytree(TOP / "crates" / name / "specs", crate / "specs")
     shutil.copytree(TOP / "crates" / name / "src", crate / "src")
@@ -295,9 +290,9 @@ def made_ready(name, folder):
 
 def checked(name, folder):
     """The places at which the prover refuses the crate."""
-    run = subprocess.run(["rt", "dev", name], cwd=folder, capture_output=True, text=True, env={**os.environ, "RT_JOBS": "1"})
+    run = subprocess.run(["rt", "check", "--jobs", "1"], cwd=Path(folder, "crates", name), capture_output=True, text=True)
     out = run.stdout + run.stderr
-    refused = re.findall(r"(?m)^\S*/specs/(\S+?):\d+:\d+: error", out)
+    refused = re.findall(r"(?m)^\S*specs/(\S+?):\d+:\d+: error", out)
     if "logic=" not in out:
         sys.exit(f"{name}: the check gave no verdict:\n{out[-2000:]}")
     return refused

@@ -8,11 +8,11 @@ from pathlib import Path
 import drop_clauses
 
 DEFINITIONS = """-- a file
-use lib.Dec.{leb}
+use Rattle.std.specs.Prelude.{leb}
 
 -- "sentence && no clause"
-unfoldable pub inRange : N -> Bool
-inRange n =
+unfoldable pub in_range : N -> Bool
+in_range n =
     leb 1 n
     && leb n 5
     && not (odd n)
@@ -38,9 +38,11 @@ pub struct Ran {
 }
 
 // what it does
+#[tactic(auto, using(law))]
 pub fn run(x: usize) -> usize
-    requires { ⌜ x < 3 ⌝ }
-    ensures { λ r. ⌜ R x { r } ⌝ }
+    requires { x < 3 }
+    ensures low { result < 3 }
+    ensures same { R x { n = result } }
 {
     if x == 1 { return 2; }
     x
@@ -67,7 +69,7 @@ class Edits(unittest.TestCase):
         self.assertIn("leb n 5 abbrev", " ".join(self.edited("dropped: && not (odd n)").split()))
 
     def test_the_first_part_is_dropped(self):
-        self.assertIn("inRange n = leb n 5 && not (odd n)", " ".join(self.edited("dropped, the first: leb 1 n &&").split()))
+        self.assertIn("in_range n = leb n 5 && not (odd n)", " ".join(self.edited("dropped, the first: leb 1 n &&").split()))
 
     def test_a_refusal_is_dropped(self):
         self.assertNotIn("(2 when", self.edited("dropped: ∷ (2 when leb 9 n)"))
@@ -76,7 +78,7 @@ class Edits(unittest.TestCase):
     def test_a_comparison_is_turned_round_and_its_name_brought_in(self):
         edited = self.edited("turned round: leb n 5")
         self.assertIn("&& ltb 5 n", edited)
-        self.assertIn("use lib.Dec.{ltb}", edited)
+        self.assertIn("use Rattle.std.specs.Prelude.{ltb}", edited)
 
     def test_a_choice_is_turned_round(self):
         self.assertIn("pick sell 2 (f 1)", self.edited("turned round: pick sell (f 1) 2"))

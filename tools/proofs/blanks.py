@@ -5,7 +5,7 @@ An argument that is a fact is never tried: only data, as the arguments of the fu
 from proofs import syntax
 
 # Facts that a place has. A path through one of them is a proof, which nothing else determines.
-FACTS = {".pre", ".ensures", ".taken", ".left", ".inv", ".given", ".good", ".kept", ".ok", ".came", ".fits", ".blocks"}
+FACTS = {".requires", ".ensures", ".true", ".false", ".either", ".invariant", ".given", ".well_formed", ".type_inv", ".auto", ".ranges"}
 DATA = {".args", ".result", ".now"}
 TACTICS = {"rw", "simp", "omega", "search", "cc", "let", "in", "ap", "sym", "absurd", "λ", "at"}
 
@@ -15,14 +15,16 @@ def candidates(text, item):
     words = syntax.tokens(text, item.start, item.end)
     found, i = [], next((i for i, token in enumerate(words) if token.text == "="), len(words)) + 1
     while i < len(words):
-        if words[i].text == "(" and not syntax.begins_a_path(words, i) and words[i - 1].text not in TACTICS:
-            past = syntax.past(words, i)
-            inside = [token.text for token in words[i + 1 : past - 1]]
-            if is_data(inside):
+        past = i + 1
+        if syntax.is_argument(words, i) and words[i - 1].text not in TACTICS and not words[i].text.startswith("."):
+            is_group = words[i].text == "("
+            past = syntax.past(words, i) if is_group else syntax.path_end(words, i)
+            inside = [token.text for token in (words[i + 1 : past - 1] if is_group else words[i:past])]
+            if len(inside) > 1 and is_data(inside):
                 found.append((words[i].start, words[past - 1].end))
-                i = past
-                continue
-        i += 1
+            elif is_group:
+                past = i + 1
+        i = past
     return found
 
 

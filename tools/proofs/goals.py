@@ -1,4 +1,4 @@
-"""What `rt dev` finds: errors, goals and verdicts, each as it comes, in short names; its notes and advice are left out."""
+"""What `rt check` finds: errors, goals and verdicts, each as it comes, in short names; its notes and advice are left out."""
 
 import re
 
@@ -7,7 +7,7 @@ from proofs import kit
 # Where a name stands, which a goal writes in front of it: the crate's own libraries, those of other crates, the kit's. And levels
 # of types, which are 0 everywhere.
 PLACES = re.compile(
-    r"Rattle·\w+(?:·(?:proofs|specs))?(?:\.(?:proofs|specs))+\."
+    r"Rattle\.\w+\.(?:proofs|specs)\."
     r"|Prim\.Native\.Nat\.|Prim\.|mathlib\.Core\.\w+\.|native\.Mathlib\.\w+\.|lib\.\w+\.|borrow\.Table\.\w+\.|mir\.(?:Syntax|Val)\."
     r"| \{0\}"
 )
@@ -21,13 +21,17 @@ HANDED = re.compile(r" [\w+-]+-reads\.Pre [\w+-]+-reads\.Post")
 NOTE = re.compile(r"note: |help: |.*: note: ")
 FOLLOWS = re.compile(r".*: error: .* was not admitted \(")
 PROVED = re.compile(r"fn .*: (?:proved|no holes)$")
-COUNTS = re.compile(r"(?:struct|enum|library|logic /|crate )|rt: \w+ proved \(unchanged |.*: (?:proved|no holes)$")
+COUNTS = re.compile(
+    r"(?:struct|enum|library|statements|axioms|linked|logic /|crate |checked |started=|generated=|holes=)"
+    r"|rt: (?:chose |rt |\w+: begins with )|.*: (?:proved|no holes)$"
+)
 
 
 def short(line):
-    """A line with names in place of whole paths."""
-    line = PLACES.sub("", line)
-    return HANDED.sub("", READS.sub(r"\1-reads.", LTS.sub("lts.", line)))
+    """A line with names in place of whole paths. A line to be added to a file stays."""
+    parts = re.split(r"(`use [^`]*`)", line)
+    parts[::2] = [HANDED.sub("", READS.sub(r"\1-reads.", LTS.sub("lts.", PLACES.sub("", part)))) for part in parts[::2]]
+    return "".join(parts)
 
 
 def told(lines):
@@ -52,7 +56,7 @@ def run(root, arguments, write):
     """Writes what is left to prove of a crate, line by line; ends with rt's status."""
     kit.crate_folder(root, arguments.crate)
     words = ["--allow-holes"] if arguments.allow_holes else []
-    with kit.dev(root, arguments.crate, *words) as process:
-        for line in told(kit.plain(root, line) for line in process.stdout):
+    with kit.check(root, arguments.crate, *words) as process:
+        for line in told(kit.plain(root, arguments.crate, line) for line in process.stdout):
             write(line[: arguments.width] if arguments.width else line)
         return process.wait()

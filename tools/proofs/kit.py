@@ -1,7 +1,8 @@
-"""The Rattle kit as these helps use it: `rt dev`, whose lines come as they are printed, and the repository that it works on."""
+"""The Rattle kit as these helps use it: `rt check`, whose lines come as they are printed, and the repository that it works on."""
 
 import contextlib
 import os
+import re
 import signal
 import subprocess
 import sys
@@ -29,13 +30,12 @@ def crate_folder(root, crate):
 
 
 @contextlib.contextmanager
-def dev(root, crate, *words):
-    """`rt dev CRATE WORDS..` while it runs. It ends with the caller, however that one ends."""
+def check(root, crate, *words):
+    """`rt check WORDS..` in the crate's folder while it runs. It ends with the caller, however that one ends."""
     try:
         process = subprocess.Popen(
-            ["rt", "dev", crate, *words],
-            cwd=root,
-            env={**os.environ, "RT_CUT": "0"},
+            ["rt", "check", *words],
+            cwd=crate_folder(root, crate),
             stdin=subprocess.DEVNULL,
             stdout=subprocess.PIPE,
             stderr=subprocess.STDOUT,
@@ -56,16 +56,16 @@ def dev(root, crate, *words):
         process.wait()
 
 
-def dev_lines(root, crate, *words):
+def check_lines(root, crate, *words):
     """Its status and all its lines."""
-    with dev(root, crate, *words) as process:
-        lines = [plain(root, line) for line in process.stdout]
+    with check(root, crate, *words) as process:
+        lines = [plain(root, crate, line) for line in process.stdout]
         return process.wait(), lines
 
 
-def formatted(root):
-    """Has the kit lay out every proof file."""
-    subprocess.run(["rt", "fmt"], cwd=root, stdin=subprocess.DEVNULL, stdout=subprocess.DEVNULL, stderr=subprocess.DEVNULL, check=False)
+def formatted(root, crate):
+    """Has the kit lay out every file of a crate."""
+    subprocess.run(["rt", "fmt"], cwd=crate_folder(root, crate), stdin=subprocess.DEVNULL, stdout=subprocess.DEVNULL, stderr=subprocess.DEVNULL, check=False)
 
 
 def progress(words):
@@ -73,6 +73,10 @@ def progress(words):
     print(words, file=sys.stderr, flush=True)
 
 
-def plain(root, line):
+# A path of the crate, as rt prints it.
+OWN = re.compile(r"(?<![\w./])(?:\./)?(?=(?:proofs|specs|src)/[\w/+-]+\.(?:antt|rt)\b)")
+
+
+def plain(root, crate, line):
     """A line with no end, its paths as they stand in the repository."""
-    return line.rstrip("\n").replace(f"{root}/", "")
+    return OWN.sub(f"crates/{crate}/", line.rstrip("\n").replace(f"{root}/crates/{crate}/", "./"))

@@ -1,6 +1,6 @@
 """How long the proofs are, and how far their answers reach back: what function proofs and law files are held to.
 
-A function proof is a file Proof.antt; every other file of proofs/ is a law file. An `abbrev` that names a place, from one of the
+A function proof is a file Proof.antt, Answers.antt or Invariants.antt; every other file of proofs/ is a law file. An `abbrev` that names a place, from one of the
 function's places to an earlier one, may reach as far back as it has to: that is what it is for."""
 
 import re
@@ -12,8 +12,9 @@ from proofs import kit
 MOST_BEFORE = 4
 MOST_CHARACTERS = 200
 
-PLACE_NAME = re.compile(r"(?m)^abbrev (\S+) : tie\.[^→\n]+→ tie\.[^→\n]+$")
-RUN = re.compile(r"\.before(?:\s+\.before)*(?![\w′-])")
+PLACE_NAME = re.compile(r"(?m)^abbrev (\S+) : (tie|goal)\.[^→\n]+→ \2\.[^→\n]+$")
+RUN = re.compile(r"\.before(?:\s*\.before)*(?![\w'-])")
+PROOFS = ("Proof.antt", "Answers.antt", "Invariants.antt")
 
 
 class Fault(NamedTuple):
@@ -25,7 +26,7 @@ class Fault(NamedTuple):
 
 
 class Lengths(NamedTuple):
-    functions: int  # files of function proofs
+    functions: int  # functions with files of their own
     function_lines: int
     law_lines: int
     longest_run: int  # of `.before`
@@ -45,12 +46,13 @@ NOTHING = Lengths(0, 0, 0, 0, 0, 0, 0)
 def files(root, crate):
     """The function proofs of a crate, and its law files."""
     paths = sorted((root / "crates" / crate / "proofs").rglob("*.antt"))
-    return [path for path in paths if path.name == "Proof.antt"], [path for path in paths if path.name != "Proof.antt"]
+    is_function = {path: path.name in PROOFS and path.parent.name != "proofs" for path in paths}
+    return [path for path in paths if is_function[path]], [path for path in paths if not is_function[path]]
 
 
 def answers_only(text):
     """A proof without the ways of the names for places; its lines keep their numbers."""
-    for name in PLACE_NAME.findall(text):
+    for name, _ in PLACE_NAME.findall(text):
         clause = re.compile(rf"(?m)^{re.escape(name)} \S+ =.*(?:\n +.*)*")
         text = clause.sub(lambda match: "\n" * match.group().count("\n"), text)
     return text
@@ -68,13 +70,13 @@ def wide_lines(text):
 
 def of_crate(root, crate):
     functions, laws = files(root, crate)
-    lengths = NOTHING
+    lengths, seen = NOTHING, set()
     for path in functions:
         text = path.read_text(encoding="utf-8")
         back, wide = [count for _, count in runs(text)], [count for _, count in wide_lines(text)]
         lengths = lengths.joined(
             Lengths(
-                functions=1,
+                functions=int(path.parent not in seen),
                 function_lines=text.count("\n"),
                 law_lines=0,
                 longest_run=max(back, default=0),
@@ -83,6 +85,7 @@ def of_crate(root, crate):
                 long_lines=sum(count > MOST_CHARACTERS for count in wide),
             )
         )
+        seen.add(path.parent)
     return lengths._replace(law_lines=sum(path.read_text(encoding="utf-8").count("\n") for path in laws))
 
 

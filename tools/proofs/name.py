@@ -1,8 +1,8 @@
-"""Facts by name in a crate's function proofs, kept where `rt dev` still proves them.
+"""Facts by name in a crate's function proofs, kept where `rt check` still proves them.
 
-An answer that applies one law goes by `search` where it can (shorten). A way back of more than four `.before` goes by names at the
-top of the file (naming); an argument that the prover finds by itself is `_` (blanks); an answer that fits in a line moves into
-`tie.spec`; and lines that are too long are broken (layout). All of it is tried at once, and what is refused goes back part by part.
+An answer that applies one law goes by `search` where it can (shorten). A path to a fact loses its `.before`, and a way back to a place
+of more than four goes by names at the top of a Proof.antt (naming); an argument that the prover finds by itself is `_` (blanks); an answer that fits in a line moves into
+`tie.spec`, one in an Answers.antt that Rattle finds by itself goes; and lines that are too long are broken (layout). All of it is tried at once, and what is refused goes back part by part.
 """
 
 from proofs import blanks, kit, layout, lengths, naming, places, shorten, syntax
@@ -69,7 +69,8 @@ class File:
             text = naming.named(text, *self.reading, but=self.but(lambda trial: not trial.is_named))
         text = blanks.blanked(text, {name: trial.blanks() for name, trial in self.trials.items()})
         # What is still tried stays where an error tells its name.
-        text = shorten.inlined(text, self.width, self.but(lambda trial: not trial.is_inlined or not trial.is_settled()))
+        stays = self.but(lambda trial: not trial.is_inlined or not trial.is_settled())
+        text = shorten.inlined(text, self.width, stays) if "tie.spec" in text else shorten.without_plain(text, stays)
         return layout.broken(syntax.without_idle_imports(self.old, text))
 
     def is_settled(self):
@@ -109,7 +110,7 @@ def files_of(crate, made, wanted, is_plain):
     for path, text in crate.old.items():
         name = function_of(path)
         reading = None
-        if name in found:
+        if name in found and path.endswith("/Proof.antt"):
             reading = (places.read(found[name].read_text(encoding="utf-8")), naming.source_of(crate.root, crate.name, name))
         if wanted(path):
             files[path] = File(text, reading, is_plain)
@@ -149,12 +150,12 @@ def name(crate, made, wanted, is_plain=False):
 def run(root, arguments, write):
     for crate_name in arguments.crates:
         crate = shorten.Crate(root, crate_name)
-        asked = arguments.function and f"crates/{crate_name}/proofs/{arguments.function.replace('::', '/')}/Proof.antt"
-        if asked and asked not in crate.old:
-            raise kit.NotUsable(f"there is no {asked}")
+        asked = arguments.function and f"crates/{crate_name}/proofs/{arguments.function.replace('::', '/')}/"
+        if asked and not any(path.startswith(asked) for path in crate.old):
+            raise kit.NotUsable(f"there is no proof in {asked}")
         before = lengths.of_crate(root, crate_name)
-        made = places.made_for(root, crate_name) if before.long_runs else None
-        name(crate, made, lambda path: not asked or path == asked, arguments.plain)
+        made = places.made_for(root, crate_name) if before.longest_run else None
+        name(crate, made, lambda path: not asked or path.startswith(asked), arguments.plain)
         after = lengths.of_crate(root, crate_name)
         write(
             f"{crate_name}: proved; lines {before.function_lines} to {after.function_lines}, ways too long {before.long_runs} to "

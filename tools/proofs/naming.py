@@ -1,6 +1,7 @@
 """Places by name: a way back of more than four `.before` goes by names that stand at the top of the proof.
 
-A name is an `abbrev` from one place of the function to an earlier one. Few are wanted, each for many ways: `links_for` picks them, and
+A way to a fact needs no `.before` at all: each place opens the one before it, so that `c` has the facts of all. What is left are ways to
+places themselves, and to facts of a name that a later place has too. A name is an `abbrev` from one place of the function to an earlier one. Few are wanted, each for many ways: `links_for` picks them, and
 `named` writes the proof with them. What a name says is what is known at the place that it leads to.
 """
 
@@ -59,14 +60,14 @@ class Places:
         return chain[count] if place and count < len(chain) else None
 
     def is_call(self, place):
-        return self.function.names_in(f"{place}·own") == list(OF_A_CALL)
+        return self.function.names_in(f"Own-{place}") == list(OF_A_CALL)
 
 
 # --- What is known of a proof's names ---
 
 
 def place_in(places, words):
-    """The place that a type names, if it is one: `tie.PLACE Inv-loop μ-loop`."""
+    """The place that a type names, if it is one: `tie.PLACE invariant-loop decreases-loop`."""
     name = words[0].removeprefix("tie.") if words and words[0].startswith("tie.") else ""
     return name if name == "Start" or name in places.before else None
 
@@ -144,7 +145,7 @@ class Proof:
         answers = []
         while i < len(words) and words[i].text != ")":
             j = syntax.past(words, i)
-            if not words[i].text.startswith(("Inv-", "μ-")):
+            if not words[i].text.startswith(("invariant-", "decreases-")):
                 answers.append(words[i:j])
             i = j
         if len(answers) != len(self.places.function.needs):
@@ -160,7 +161,7 @@ class Proof:
         while i < len(words):
             word = words[i].text
             if word == "let" and i + 2 < len(words) and words[i + 2].text == "=":
-                path = self.path(words, i + 3, scope)
+                path = self.applied(words, i + 3, scope)
                 is_place = path and path[1] < len(words) and words[path[1]].text == "in"
                 scope[words[i + 1].text] = path[0] if is_place else None
                 i += 3
@@ -170,7 +171,7 @@ class Proof:
                         break
                     scope.pop(token.text, None)
                 i += 1
-            elif syntax.begins_a_path(words, i) and (path := self.path(words, i, scope)):
+            elif not word.startswith(".") and (path := self.path(words, i, scope)):
                 self.add(item, words, i, path, scope, found)
                 # What a name is applied to may have a path of its own.
                 i = path[1] if word in scope else i + 1
@@ -191,25 +192,21 @@ class Proof:
         """The place of the path at i, and where it ends; nothing where no place is known."""
         if i >= len(words):
             return None
-        word = words[i].text
-        if scope.get(word):
-            place, j = scope[word], i + 1
-        elif word in self.links and i + 1 < len(words):
-            if words[i + 1].text == "(":
-                j = syntax.past(words, i + 1)
-                inner = self.path(words, i + 2, scope)
-                if not inner or inner[1] != j - 1:
-                    return None
-                place = self.links[word].target
-            elif scope.get(words[i + 1].text):
-                place, j = self.links[word].target, i + 2
-            else:
-                return None
-        else:
-            return None
-        while place and j < len(words) and words[j].text == ".before":
+        place, j = scope.get(words[i].text), i + 1
+        if words[i].text == "(":
+            j = syntax.past(words, i)
+            inner = self.applied(words, i + 1, scope)
+            place = inner[0] if inner and inner[1] == j - 1 else None
+        while place and j < len(words) and words[j].text == ".before" and words[j].start == words[j - 1].end:
             place, j = self.places.back(place, 1), j + 1
         return (place, j) if place else None
+
+    def applied(self, words, i, scope):
+        """The place that a name for a way gives, applied to a path, or that a path gives by itself."""
+        if i < len(words) and words[i].text in self.links:
+            argument = self.path(words, i + 1, scope)
+            return (self.links[words[i].text].target, argument[1]) if argument else None
+        return self.path(words, i, scope)
 
 
 # --- Which names a proof is to have ---
@@ -239,9 +236,9 @@ def worth(places, place):
     """How little a place says, as the end of a way: 0 for the start, a call, a loop's head."""
     if place == "Start" or place.startswith("At-") or places.is_call(place):
         return 0.0
-    if re.match(r"(Then|Else|In-)", place):
+    if re.match(r"(Then|Else|In)-", place):
         return 1.5
-    return 5.0 if re.search(r"(known|arg)\d*$", place) else 3.0
+    return 5.0 if re.search(r"(known|arg)(-\d+)?$", place) else 3.0
 
 
 def link_cost(places, link, links):
@@ -292,21 +289,14 @@ def called(source, callee, number):
     return calls[number - 1].group(1) if number <= len(calls) else None
 
 
-def tests_of(places, source):
-    """The conditions of the source in the order of its tests, `a || b` as two; none where they are not all of them."""
-    conditions = re.findall(r"\bif\s+([^{};]*?)\s*\{", re.sub(r"//[^\n]*", "", source))
-    found = [part.strip() for condition in conditions for part in re.split(r"\|\||&&", condition)]
-    count = max((int(match.group(1)) for name in places.before if (match := re.match(r"(?:Then|Else)(\d+)$", name))), default=0)
-    return found if len(found) == count else []
+def callee_of(place):
+    """The function whose call leads to a place: After-NAME, with what tells it from other calls behind."""
+    return re.match(r"[A-Za-z0-9_]*", place.partition("-")[2]).group()
 
 
-SAY_NOTHING = {"let", "len", "rules", "true", "false"}
-
-
-def test_name(condition):
-    """The word that tells what a condition is about."""
-    words = [word for word in re.findall(r"[a-z][a-z_]+(?!\w*::)", condition) if len(word) > 2 and word not in SAY_NOTHING]
-    return words[0].replace("_", "-") if words else None
+def camel(words):
+    """Words as the name of a type has them."""
+    return "".join(part[:1].upper() + part[1:] for part in re.split(r"[_-]", words))
 
 
 def words_of(places, place, source):
@@ -314,25 +304,19 @@ def words_of(places, place, source):
     if place == "Start":
         return ["Begun"]
     kind, _, rest = place.partition("-")
-    if kind == "At":
-        return ["Head", *([] if rest == "loop" else [f"Head-of-{rest}"])]
-    if kind == "In":
-        return ["Turn", *([] if rest == "loop" else [f"Turn-of-{rest}"])]
-    if match := re.match(r"(Then|Else)(\d+)$", place):
-        way, number = "Met" if match.group(1) == "Then" else "Past", int(match.group(2))
-        tests = tests_of(places, source)
-        about = test_name(tests[number - 1]) if number <= len(tests) else None
-        return ([f"{way}-{about}"] if about else []) + [f"{way}-if{number}"]
-    title = rest[:1].upper() + rest[1:]
+    plain = {"At": "Head", "In": "Turn", "Then": "Met", "Else": "Past"}
+    if kind in ("At", "In"):
+        return [plain[kind], f"{plain[kind]}Of{camel(rest)}"]
+    if kind in ("Then", "Else"):
+        return [f"{plain[kind]}{camel(rest)}"]
+    title = camel(rest)
     if not places.is_call(place):
         return [title]
-    callee, number = rest, 1
-    calls = {name for name in places.before if places.is_call(name)}
-    if (match := re.match(r"(.*?)([2-9]|[1-9]\d)$", rest)) and f"After-{match.group(1)}" in calls:
-        callee, number = match.group(1), int(match.group(2))
-    kept = called(source, callee.replace("-", "_"), number)
+    callee = callee_of(place)
+    calls = [name for name in places.before if places.is_call(name) and callee_of(name) == callee]
+    kept = called(source, callee, calls.index(place) + 1)
     has_words = kept and len(kept) > 2
-    return ([kept[:1].upper() + kept[1:].replace("_", "-")] if has_words else []) + [title]
+    return ([camel(kept)] if has_words else []) + [title]
 
 
 def names_for(places, links, source, taken):
@@ -340,8 +324,8 @@ def names_for(places, links, source, taken):
     names, taken = {}, set(taken)
     for link in sorted(links, key=lambda each: len(places.chain(each.target))):
         words = words_of(places, link.target, source)
-        behind = words_of(places, link.source, source)[0].lower()
-        for name in [*words, *(f"{word}-from-{behind}" for word in words), *(f"{words[0]}-{n}" for n in range(2, 99))]:
+        behind = words_of(places, link.source, source)[0]
+        for name in [*words, *(f"{word}From{behind}" for word in words), *(f"{words[0]}{n}" for n in range(2, 99))]:
             if name not in taken:
                 break
         names[link] = name
@@ -355,16 +339,17 @@ def known_at(places, place, source):
         return "the start"
     kind, _, rest = place.partition("-")
     if kind == "At":
-        return "the loop's head" if rest == "loop" else f"the head of `{rest}`"
+        return f"the head of `{rest}`"
     if kind == "In":
-        return "the turn's begin"
-    if match := re.match(r"(?:Then|Else)(\d+)$", place):
-        tests = tests_of(places, source)
-        return f"the test `{tests[int(match.group(1)) - 1] if tests else places.function.records[place][-1][0]}`"
+        return f"the turn's begin in `{rest}`"
+    if kind in ("Then", "Else"):
+        return f"the test `{rest}`, which {'held' if kind == 'Then' else 'did not hold'}"
     if not places.is_call(place):
         return f"where `{rest}` is known"
-    name = words_of(places, place, source)[0].lower()
-    return f"the call of `{rest}`" if name == rest else f"the call whose answer is `{name.replace('-', '_')}`"
+    callee = callee_of(place)
+    calls = [name for name in places.before if places.is_call(name) and callee_of(name) == callee]
+    kept = called(source, callee, calls.index(place) + 1)
+    return f"the call whose answer is `{kept}`" if kept and len(kept) > 2 and kept != callee else f"the call of `{callee}`"
 
 
 # --- A proof with them ---
@@ -384,20 +369,21 @@ def source_of(root, crate, function):
 
 def arguments_of(text):
     """What every place of the proof is handed: the invariants and measures of its loops."""
-    match = re.search(r"(?m)^\S+ : tie\.Need-[^\s]+((?: (?:Inv|μ)-\S+)*)$", text)
+    match = re.search(r"(?m)^\S+ : tie\.Need-[^\s]+((?: (?:invariant|decreases)-\S+)*)$", text)
     return match.group(1) if match else ""
 
 
 def written(head, chain, length, links, names):
-    """A way along a chain of places, from a head, with the names of its links."""
+    """A way along a chain of places, from a head, with the names of its links; whether the last of it is such a name applied."""
     at = {place: i for i, place in enumerate(chain)}
-    i, words, is_one = 0, head, True
+    i, words, is_applied = 0, head, False
     for link in route(chain, length, links)[1]:
-        words += " .before" * (at[link.source] - i)
-        is_one = is_one and at[link.source] == i and " " not in head
-        words = f"{names[link]} {words if is_one else f'({words})'}"
-        i, is_one = at[link.target], False
-    return words + " .before" * (length - i)
+        steps = at[link.source] - i
+        words = f"({words})" if is_applied else words
+        words, i, is_applied = f"{names[link]} {words}{'.before' * steps}", at[link.target], True
+    if is_applied and length > i:
+        words, is_applied = f"({words})", False
+    return words + ".before" * (length - i), is_applied
 
 
 def declarations(places, links, names, handed, source):
@@ -408,7 +394,7 @@ def declarations(places, links, names, handed, source):
         lines += [
             f"-- back to {known_at(places, link.target, source)}",
             f"abbrev {names[link]} : tie.{link.source}{handed} → tie.{link.target}{handed}",
-            f"{names[link]} c = c{' .before' * back}",
+            f"{names[link]} c = c{'.before' * back}",
             "",
         ]
     return lines
@@ -418,7 +404,7 @@ def top(proof):
     """Where names of places go: above the first definition that comes behind the imports, the invariants and the measures."""
     behind = 0
     for item in proof.items:
-        if item.kind == "use" or item.name.startswith(("Inv-", "μ-")):
+        if item.kind == "use" or item.name.startswith(("invariant-", "decreases-")):
             behind = item.end
     rest = proof.text[behind:]
     return behind + len(rest) - len(rest.lstrip("\n"))
@@ -445,17 +431,36 @@ def shared(clause, ways):
     for way in used_again(body, head.split()[1:], ways):
         name = let_name(way.split()[0])
         if name not in {token.text for token in syntax.tokens(clause)}:
-            body = re.sub(rf"\({re.escape(way)}\)|(?<![\w′-]){re.escape(way)}(?![\w′.-])", name, body)
+            body = re.sub(rf"\({re.escape(way)}\)|(?<![\w'-]){re.escape(way)}(?![\w'.-])", name, body)
             lets += f"    let {name} = {way} in\n"
-    match = re.search(r"let after = ([A-Z][\w′-]*) [^.\n]* in\n", body)
+    match = re.search(r"let after = ([A-Z][\w'-]*) [^.\n]* in\n", body)
     if match and let_name(match.group(1)) not in {token.text for token in syntax.tokens(clause + lets)}:
-        body = re.sub(r"(?<![\w′.-])after(?![\w′-])", let_name(match.group(1)), body)
+        body = re.sub(r"(?<![\w'.-])after(?![\w'-])", let_name(match.group(1)), body)
     return head + (f" =\n{lets}    {body.lstrip()}" if lets else f" ={body}")
 
 
 def named(text, function, source="", but=()):
-    """A proof whose long ways go by names, but in some definitions."""
+    """A proof whose facts stand without a way and whose long ways go by names, but in some definitions."""
     places = Places(function)
+    return with_names(flat(text, places, but), places, source, but)
+
+
+def flat(text, places, but=()):
+    """A proof whose paths to facts have no `.before` where the place that they begin at has the fact under its name."""
+    cuts = []
+    for way in Proof(text, places).ways():
+        fact = re.match(rf"\.({syntax.NAME})", text[way.end :])
+        chain = places.chain(way.place)[: way.back + 1]
+        has = [place for place in chain if fact and fact.group(1) in dict(places.function.records.get(place, ()))]
+        if way.owner not in but and way.head.isidentifier() and has == chain[-1:]:
+            cuts.append((way.end - len(".before") * way.back, way.end))
+    for start, end in sorted(cuts, reverse=True):
+        text = text[:start] + text[end:]
+    return text
+
+
+def with_names(text, places, source, but):
+    """A proof whose long ways go by names."""
     proof = Proof(text, places)
     ways = [way for way in proof.ways() if way.owner not in but and way.back > MOST_BEFORE]
     given = {link: name for name, link in proof.links.items()}
@@ -463,10 +468,12 @@ def named(text, function, source="", but=()):
     names = {**names_for(places, links, source, {token.text for token in syntax.tokens(text)}), **given}
     taken = {}
     for way in sorted(ways, key=lambda each: -each.start):
-        words = written(way.head, places.chain(way.place), way.back, [*given, *links], names)
-        text = text[: way.start] + words + text[way.end :]
+        words, is_applied = written(way.head, places.chain(way.place), way.back, [*given, *links], names)
+        by_itself = re.search(r"(\(|= )$", text[: way.start]) and re.match(r"\)(?!\.)| in\b|\n\S|\n*$", text[way.end :])
+        text = text[: way.start] + (f"({words})" if is_applied and not by_itself else words) + text[way.end :]
         if way.kind == "clause":
-            taken.setdefault(way.owner, []).append(re.sub(r"( \.before)+$", "", words))
+            words = re.sub(r"(\.before)+$", "", words)
+            taken.setdefault(way.owner, []).append(words[1:-1] if words.startswith("(") else words)
     for item in reversed(syntax.items(text)):
         if item.kind == "clause" and item.name in taken:
             text = text[: item.start] + shared(text[item.start : item.end], taken[item.name]) + text[item.end :]

@@ -1,8 +1,9 @@
 """The places of a function, and what is known at each by name: the way to every fact that a need can cite.
 
-At each need of a function the prover has `c`, the record of what is known there. It has the facts of the last place and `before`,
-the record of the place before; the first is `Start`, with the arguments. Rattle makes these records of the code, in a module `Lts`
-for each function, which `rt dev CRATE --generated` writes. They are kept below target/ until the code changes.
+At each need of a function the prover has `c`, the record of what is known there. It has the facts of the last place, those of all
+places before it under their own names, and `before`, the record of the place before; the first is `Start`, with the arguments. Rattle
+makes these records of the code, in a module `Lts` for each function, which `rt check --generated` writes; beside it a module `View`
+where the function has a file of answers. They are kept below target/ until the code changes.
 """
 
 import hashlib
@@ -16,14 +17,14 @@ RECORD = re.compile(r"(\s*)pub record (\S+)")
 FIELD = re.compile(r"(\s*)pub (\S+) :\s*(.*)")
 NEED = re.compile(r"(\s*)(?:pub )?Need-([^\s:=]+)(?: [^:=]*)? =\s*(.*)")
 AT = re.compile(r"\(c : ([^\s)]+)")
-CALL = re.compile(r"\s*(\S+·own) = Called\.Called ")
+OWN = re.compile(r"(\s*)(Own-\S+) =\s*(.*)")
+NAMED = re.compile(r"(\s*)Named-([^\s:=]+)(?: [^:=]*)? =\s*(.*)")
+
+# The files of a function's proof.
+PROOFS = ("Proof.antt", "Answers.antt", "Invariants.antt")
 
 # What a call gives, in the order of use.
-OF_A_CALL = ("ensures", "result", "last", "kept", "ok")
-
-# How many `.before` in a row are written out: more than these nobody counts, and a path should not have them.
-MOST_WRITTEN = 4
-
+OF_A_CALL = ("ensures", "result", "new", "type_inv", "auto")
 
 class Step(NamedTuple):
     """One place on the way to a need."""
@@ -36,6 +37,7 @@ class Step(NamedTuple):
 class Function(NamedTuple):
     records: dict  # by name, a list of (field, type)
     needs: list  # (name, place)
+    typed: dict = {}  # by place, the names of what the types of its values tell
 
     def way(self, place):
         """The places from one back to the start of the function."""
@@ -43,6 +45,8 @@ class Function(NamedTuple):
         while place in self.records:
             fields = dict(self.records[place])
             facts = [(name, self.names_in(of)) for name, of in fields.items() if name != "before"]
+            if not steps and place in self.typed:
+                facts.append(("type_inv", self.typed[place]))
             steps.append(Step(place, len(steps), facts))
             place = head(fields.get("before", ""))
         return steps
@@ -86,17 +90,39 @@ def read(text):
             at = AT.search(whole(lines, i, len(match.group(1)), match.group(3)))
             needs.append((match.group(2), at.group(1) if at else ""))
             current = None
-        elif match := CALL.match(line):
-            records[match.group(1)] = [(name, "") for name in OF_A_CALL]
+        elif match := OWN.match(line):
+            if whole(lines, i, len(match.group(1)), match.group(3)).startswith("Called.Called "):
+                records[match.group(2)] = [(name, "") for name in OF_A_CALL]
             current = None
         elif line.strip() and indented(line) <= deep:
             current = None
     return Function(records, needs)
 
 
+def viewed(function, text):
+    """A function with the needs that its file of answers knows, by the View of it."""
+    lines, needs, places, typed = text.split("\n"), [], {}, {}
+    records = read(text).records
+    for name, fields in records.items():
+        if name.startswith("In-") and fields and fields[0][0] == "before":
+            places[name] = head(fields[0][1]).removeprefix("Lts.")
+            typed[places[name]] = [field for field, _ in records.get(f"Typed-{name.removeprefix('In-')}", [])]
+    for i, line in enumerate(lines):
+        if match := NAMED.match(line):
+            at = AT.search(whole(lines, i, len(match.group(1)), match.group(3)))
+            needs.append((match.group(2), places.get(at.group(1), "") if at else ""))
+    return function._replace(needs=needs, typed={place: names for place, names in typed.items() if names}) if needs else function
+
+
+def read_file(path):
+    """The function whose Lts is a file, with the View beside it."""
+    function, view = read(path.read_text(encoding="utf-8")), path.with_suffix("") / "View.antt"
+    return viewed(function, view.read_text(encoding="utf-8")) if view.is_file() else function
+
+
 def functions(made, crate):
     """The files of every function that has places, by module::function."""
-    top = made / f"Rattle·{crate}·proofs" / "proofs"
+    top = made / f"Rattle-{crate}-proofs"
     found = {}
     for path in sorted(top.rglob("Lts*.antt")):
         names = list(path.relative_to(top).parts[:-1])
@@ -134,7 +160,7 @@ def sources(root, crate):
         folder = root / "crates" / name
         for path in sorted((*folder.glob("src/**/*.rt"), *folder.glob("specs/**/*.antt"))):
             hashed.update(f"{path.relative_to(root)}\n".encode() + path.read_bytes())
-    for path in sorted((root / "crates" / crate / "proofs").rglob("Proof.antt")):
+    for path in sorted(path for name in PROOFS for path in (root / "crates" / crate / "proofs").rglob(name)):
         hashed.update(f"{path.relative_to(root)}\n".encode())
     return hashed.hexdigest()
 
@@ -145,10 +171,10 @@ def made_for(root, crate):
     stamp, now = kept / "sources", sources(root, crate)
     if stamp.is_file() and stamp.read_text() == now:
         return kept
-    kit.progress(f"rt dev {crate} --generated, once for this code ..")
+    kit.progress(f"rt check --generated of {crate}, once for this code ..")
     shutil.rmtree(kept, ignore_errors=True)
     kept.mkdir(parents=True)
-    _, lines = kit.dev_lines(root, crate, "--generated", str(kept))
+    _, lines = kit.check_lines(root, crate, "--generated", str(kept))
     if not functions(kept, crate):
         raise kit.NotUsable("\n".join([f"Rattle made no places of {crate}. What rt said:", *lines[-20:]]))
     stamp.write_text(now)
@@ -163,16 +189,15 @@ def named(found, asked):
         return matching[0]
     if matching:
         raise kit.NotUsable(f"several functions are called {asked}: {', '.join(matching)}")
-    raise kit.NotUsable(f"no places of {asked}: prove what it calls first, or see its line in `rt dev`; there are {', '.join(found)}")
+    raise kit.NotUsable(f"no places of {asked}: prove what it calls first, or see its line in `rt check`; there are {', '.join(found)}")
 
 
 # --- What is shown ---
 
 
 def path_to(back, is_whole):
-    if back > MOST_WRITTEN and not is_whole:
-        return f"c .before×{back}"
-    return "c" + " .before" * back
+    """The path to the facts of a place: each place opens the one before it, so that `c` has them all."""
+    return "c" + (".before" * back if is_whole else "")
 
 
 def shown(step, is_whole, fact):
@@ -181,7 +206,7 @@ def shown(step, is_whole, fact):
     for name, within in step.facts:
         if fact and fact != name and fact not in within:
             continue
-        rows.append(f"{path_to(step.back, is_whole)} .{name}" + (f" {{{', '.join(within)}}}" if within else ""))
+        rows.append(f"{path_to(step.back, is_whole)}.{name}" + (f" {{{', '.join(within)}}}" if within else ""))
     return rows
 
 
@@ -191,7 +216,7 @@ def table(function, needs, is_whole, fact):
     for name, place in needs:
         at.setdefault(place, []).append(name)
     for place, names in at.items():
-        yield f"{', '.join(f'Need-{name}' for name in names)}: c is {place or 'told nowhere'}"
+        yield f"{', '.join(names)}: c is {place or 'told nowhere'}"
         rows = [(row, step.place) for step in function.way(place) for row in shown(step, is_whole, fact)]
         wide = min(max((len(row) for row, _ in rows), default=0), 80)
         for row, name in rows:
@@ -204,14 +229,14 @@ def run(root, arguments, write):
     found = functions(made, arguments.crate)
     if not arguments.function:
         for name, path in found.items():
-            function = read(path.read_text(encoding="utf-8"))
+            function = read_file(path)
             longest = max((len(function.way(place)) for _, place in function.needs), default=0)
             write(f"{name}: needs {len(function.needs)}, places on the longest way {longest}")
         return 0
-    function = read(found[named(found, arguments.function)].read_text(encoding="utf-8"))
+    function = read_file(found[named(found, arguments.function)])
     needs = [need for need in function.needs if arguments.need in (None, need[0])]
     if not needs:
         raise kit.NotUsable(f"no need {arguments.need}: there are {', '.join(name for name, _ in function.needs)}")
-    for line in table(function, needs, arguments.whole or arguments.fact, arguments.fact):
+    for line in table(function, needs, arguments.whole, arguments.fact):
         write(line)
     return 0

@@ -1,78 +1,66 @@
-"""Proof files to begin with: those that `rt dev` offers, without what no proof keeps."""
+"""Proof files to begin with: those that `rt check --start` writes, without what no proof keeps."""
 
 import re
 from pathlib import Path
-from typing import NamedTuple
 
 from proofs import kit
 
-OFFER = re.compile(r"help: write (\S+/Proof\.antt) with these lines")
-SOURCE_PLACE = re.compile(r"\s*-- src/\S+:\d+:\d+$")
-NAMED_IMPORT = re.compile(r"use \S+ as ([\w+-]*(?:reads|lts))$")
+WITHOUT = re.compile(r"fn (\S+): no proof\b")
+SOURCE_PLACE = re.compile(r"(?m)^ *-- src/\S+:\d+:\d+\n")
 
 
-class Offer(NamedTuple):
-    path: str
-    lines: list
-
-
-def offers(lines):
-    """The files that the check offers, with their lines as printed."""
-    found, body = [], None
-    for line in lines:
-        offered = OFFER.match(line)
-        if offered:
-            body = []
-            found.append(Offer(offered.group(1), body))
-        elif body is not None and (line.startswith("    ") or not line.strip()):
-            body.append(line[4:].rstrip())
-        else:
-            body = None
-    return found
-
-
-def tidy(lines):
-    """Printed lines without the places of the source, and without the imports that no line cites."""
-    lines = [line for line in lines if not SOURCE_PLACE.match(line)]
-    rest = "\n".join(line for line in lines if not line.startswith("use "))
-
-    def is_cited(line):
-        named = NAMED_IMPORT.match(line)
-        return not named or re.search(rf"(?<![\w·′-]){re.escape(named.group(1))}\.", rest)
-
-    return [line for line in lines if is_cited(line)]
+def tidy(text):
+    """A file that was written without the places of the source, which do not stay."""
+    return SOURCE_PLACE.sub("", text).lstrip("\n")
 
 
 def header(path):
-    """The first line of a proof file: whose it is. A cycle of calls has a folder +ONE+OTHER."""
-    crate, _, *modules, folder, _ = Path(path).parts[1:]
-    names = [f"`{'::'.join([crate, *modules, name])}`" for name in folder.split("+") if name]
-    return f"-- {' and '.join(names)} {'meet their contracts' if len(names) > 1 else 'meets its contract'}. Assumes nothing."
+    """The first line of a proof file: whose it is. The functions of a cycle of calls share the folder +NAME."""
+    crate, _, *modules, folder, file = Path(path).parts[1:]
+    name = f"`{'::'.join([crate, *modules, folder.lstrip('+')])}`"
+    if file == "Invariants.antt":
+        return f"-- {name}: what its loops keep, and what becomes less. Assumes nothing."
+    if folder.startswith("+"):
+        return f"-- The functions of the cycle {name} meet their contracts. Assumes nothing."
+    return f"-- {name} meets its contract. Assumes nothing."
 
 
-def text_of(offer):
-    body = "\n".join(tidy(offer.lines)).strip("\n")
-    return f"{header(offer.path)}\n{body}\n"
+def files(folder):
+    return {path for path in (folder / "proofs").rglob("*.antt") if path.is_file()}
+
+
+def own_folder(folder, function):
+    """Where the files of a function are, by its name with the crate's."""
+    return folder.joinpath("proofs", *function.split("::")[1:])
+
+
+def started(root, crate, function, write):
+    """Has rt write the files of a function that has none. How many were written."""
+    folder = root / "crates" / crate
+    before = files(folder)
+    kit.check_lines(root, crate, "--start", function)
+    new = sorted(files(folder) - before)
+    for path in new:
+        where, text = path.relative_to(root).as_posix(), tidy(path.read_text(encoding="utf-8"))
+        path.write_text(f"{header(where)}\n{text}", encoding="utf-8")
+        holes = len(re.findall(r"(?<!\S)\?", text))
+        write(f"wrote {where}: {holes} {'hole' if holes == 1 else 'holes'}")
+    return len(new)
 
 
 def run(root, arguments, write):
-    """Writes each file that is offered and not there yet. Ends with rt's status where the crate was not reached."""
+    """Writes the files of each function that has no proof and no file yet. Ends with rt's status where the crate was not reached."""
     folder = kit.crate_folder(root, arguments.crate)
-    status, lines = kit.dev_lines(root, arguments.crate)
+    status, lines = kit.check_lines(root, arguments.crate)
     for line in lines:
-        if ": error" in line or (line.startswith(("fn ", "logic=", "rt: ")) and not line.endswith(": proved") and "(unchanged " not in line):
+        if ": error" in line or (line.startswith(("fn ", "logic=")) and not line.endswith(": proved")):
             write(line[:400])
-    written = 0
-    for offer in offers(lines):
-        path = root / offer.path
-        # What is printed is the prover's word: no file is written elsewhere, and none over another.
-        if not path.resolve().is_relative_to((folder / "proofs").resolve()) or path.exists():
-            continue
-        path.parent.mkdir(parents=True, exist_ok=True)
-        path.write_text(text_of(offer), encoding="utf-8")
-        holes = len(re.findall(r"(?<!\S)\?", "\n".join(offer.lines)))
-        write(f"wrote {offer.path}: {holes} {'hole' if holes == 1 else 'holes'}")
-        written += 1
+    without = [found.group(1) for line in lines if (found := WITHOUT.match(line))]
+    written = sum(
+        started(root, arguments.crate, function, write)
+        for function in dict.fromkeys(without)
+        if function.startswith(f"{arguments.crate}::") and not own_folder(folder, function).exists()
+    )
     if not written:
-        write("wrote nothing: no file is offered that is not there")
+        write("wrote nothing: no function without a proof is without a file")
     return 0 if any(line.startswith("logic=") for line in lines) else status

@@ -1,7 +1,8 @@
-"""Shorter answers in a crate's function proofs, kept where `rt dev` still proves them.
+"""Shorter answers in a crate's function proofs, kept where `rt check` still proves them.
 
 search: an answer that applies one law to facts reached by paths becomes `search LAW`; one that is refused is put back.
-inline: an answer that is `search ..` or `omega arith` moves into `tie.spec`, on a line of its own with its need's name behind it.
+inline: in a Proof.antt an answer that is `search ..` or `omega arith` moves into `tie.spec`, on a line of its own with its need's name
+behind it; in an Answers.antt an answer that is `search rules` goes, since Rattle tries that by itself.
 """
 
 import re
@@ -9,22 +10,26 @@ from typing import NamedTuple
 
 from proofs import kit
 
-HEAD = re.compile(r"^([a-z][\w′-]*) : tie\.(Need-[\w-]+)")
-ERROR = re.compile(r"^(crates/\S+/Proof\.antt):(\d+):(\d+): (?:error:|unsolved \?\d+ in) `([^`]+)`")
+HEAD = re.compile(r"^(?:pub )?([a-z][\w'-]*) : (?:tie\.Need-|goal\.)([\w'-]+)")
+FILES = ("Proof.antt", "Answers.antt")
+ERROR = re.compile(r"^(crates/\S+/(?:Proof|Answers)\.antt):(\d+):(\d+): (?:error:|unsolved \?\d+ in) `([^`]+)`")
 UNSOLVED = re.compile(r"\S+ unsolved ")
 # Of a function that calls one that is refused nothing is checked.
 UNCHECKED = re.compile(r"^fn \w+::(\S+): not proved; it calls ")
 # Said of a caller whose callee is refused.
 FOLLOWS = "was not admitted"
-TRIVIAL = re.compile(r"^((?: c)?(?: κs)?) = (search [a-z][\w′-]*|omega arith)$")
+TRIVIAL = re.compile(r"^((?: c)?(?: κs)?) = (search [a-z][\w'-]*|omega arith)$")
 LEFT = re.compile(r"^((?: c)?(?: κs)?) = ?(.*)$")
-LAW = re.compile(r"^([a-zA-Z][\w′-]*)(?: |$)")
+LAW = re.compile(r"^([a-zA-Z][\w'-]*)(?: |$)")
 BEHIND = re.compile(r"\)  -- (\S+)$")
-ONE_LINE_SPEC = re.compile(r"(?m)^([\w′-]+-spec) = tie\.close \(tie\.spec ([\w′ -]+)\)$")
-SPREAD_SPEC = re.compile(r"(?m)^([\w′-]+-spec) =\n    tie\.close\n    \(tie\.spec$")
+ONE_LINE_SPEC = re.compile(r"(?m)^([\w'-]+_spec) = tie\.close \(tie\.spec ([\w' -]+)\)$")
+SPREAD_SPEC = re.compile(r"(?m)^([\w'-]+_spec) =\n    tie\.close\n    \(tie\.spec$")
 
 # Words that an answer may begin with and that name no law.
 NO_LAW = {"rw", "simp", "omega", "cc", "record", "let", "elim", "absurd", "ap", "sym", "refl", "search", "unfold", "subst", "c"}
+
+# A path to a fact of the record that an answer gets.
+PATH = re.compile(r"(?<![\w'.-])c(?: ?\.[\w'-]+){2}")
 
 # How often refused answers are put back before the crate is left as it was.
 MOST_TURNS = 12
@@ -65,7 +70,7 @@ def after_name(answer):
 def searched_by(answer):
     """The binders and the one law of an answer that applies it to facts reached by paths; otherwise nothing."""
     left = LEFT.match(after_name(answer))
-    if answer.unfolds or not left or " c" not in left.group(1) or ".before" not in left.group(2):
+    if answer.unfolds or not left or " c" not in left.group(1) or not PATH.search(left.group(2)):
         return None
     core = left.group(2)
     while core.startswith("let ") and " in " in core:
@@ -81,7 +86,7 @@ def searched(text, but=()):
     lines = text.split("\n")
     for answer in reversed(answers(lines)):
         by = None if answer.name in but else searched_by(answer)
-        if by:
+        if by and by[1] != "search":
             lines[answer.first + 1 : answer.past] = [f"{answer.name}{by[0]} = search {by[1]}"]
     return "\n".join(lines)
 
@@ -100,8 +105,9 @@ def spread(text):
 
 
 def uses(name, text):
-    """How often a name stands in a proof, the need of that name aside."""
-    return len(re.findall(rf"(?<![\w′-]){re.escape(name)}(?![\w′-])", text.replace(f"Need-{name}", "")))
+    """How often a name stands in a proof, the need or goal of that name aside."""
+    text = re.sub(rf"(?:tie\.Need-|goal\.){re.escape(name)}(?![\w'-])", "", text)
+    return len(re.findall(rf"(?<![\w'-]){re.escape(name)}(?![\w'-])", text))
 
 
 def moved_as(answer, width):
@@ -112,6 +118,19 @@ def moved_as(answer, width):
         return None
     moved = f"(λ{left.group(1) or ' c'}. {left.group(2)})"
     return moved if plain or len(f"    {moved}  -- {answer.name}") <= width else None
+
+
+def without_plain(text, but=()):
+    """A file of answers without those that Rattle finds by itself: `search rules`, used nowhere else and without a comment."""
+    lines = text.split("\n")
+    for answer in reversed(answers(lines)):
+        plain = TRIVIAL.match(after_name(answer))
+        has_words = answer.first and lines[answer.first - 1].startswith("--")
+        if plain and plain.group(2) == "search rules" and answer.name not in but and uses(answer.name, text) == 2 and not has_words:
+            has_gap = answer.past < len(lines) and not lines[answer.past]
+            del lines[answer.first : answer.past + has_gap]
+    left = "\n".join(lines)
+    return left if answers(lines) else text
 
 
 def inlined(text, width=0, but=()):
@@ -148,7 +167,8 @@ class Crate:
 
     def __init__(self, root, name):
         self.root, self.name = root, name
-        files = sorted((kit.crate_folder(root, name) / "proofs").rglob("Proof.antt"))
+        folder = kit.crate_folder(root, name) / "proofs"
+        files = sorted(path for file in FILES for path in folder.rglob(file) if path.parent != folder)
         self.old = {path.relative_to(root).as_posix(): path.read_text(encoding="utf-8") for path in files}
         self.now = dict(self.old)
         # Of the last check, by file and definition: the lines and columns of each `_` that was not determined; and the files not read.
@@ -163,16 +183,17 @@ class Crate:
 
     def formatted(self):
         """Has the kit lay out what stands in the files."""
-        kit.formatted(self.root)
+        kit.formatted(self.root, self.name)
         self.now = {path: (self.root / path).read_text(encoding="utf-8") for path in self.old}
 
     def check(self):
         """Whether the crate is proved, and the names that are refused by file; an answer in `tie.spec` by the comment behind it."""
-        status, lines = kit.dev_lines(self.root, self.name)
+        status, lines = kit.check_lines(self.root, self.name)
         refused, follows, self.unsolved, self.unchecked = {}, {}, {}, set()
         for line in lines:
             if unchecked := UNCHECKED.match(line):
-                self.unchecked.add(f"crates/{self.name}/proofs/{unchecked.group(1).replace('::', '/')}/Proof.antt")
+                where = f"crates/{self.name}/proofs/{unchecked.group(1).replace('::', '/')}"
+                self.unchecked |= {f"{where}/{file}" for file in FILES}
             error = ERROR.match(line)
             if error and error.group(1) in self.old:
                 path, row, column, name = error.groups()
@@ -205,7 +226,7 @@ def by_search(crate):
 def by_inlining(crate):
     """Has plain answers stand in tie.spec. A file in which one is refused goes back to what it was."""
     before = dict(crate.now)
-    crate.put({path: inlined(text) for path, text in before.items()})
+    crate.put({path: inlined(text) if path.endswith("/Proof.antt") else without_plain(text) for path, text in before.items()})
     is_proved, refused = crate.check()
     if not is_proved and refused:
         crate.put({path: before[path] for path in refused})

@@ -7,6 +7,8 @@ NAME = r"[^\s(){}.;,@\"«»]+"
 TOKEN = re.compile(rf"--[^\n]*|\"(?:\\.|[^\"\\])*\"|«[^»]*»|[(){{}},;@]|{NAME}(?:\.{NAME})*|\.{NAME}|\.")
 OPERATOR = re.compile(r"[^\w_.«\"(){}]+$")
 MARKS = {"abbrev", "pub", "unfoldable"}
+# What Rattle makes of a function: a path that begins so is a name.
+MADE = {"tie", "goal"}
 CLOSING = {"(": ")", "{": "}"}
 
 # What an expression may stand behind: there, and not behind another part of an application, a path begins.
@@ -29,11 +31,20 @@ class Item(NamedTuple):
 
 
 def tokens(text, start=0, end=None):
-    end = len(text) if end is None else end
-    found = []
+    """The words of a proof. A path is a word for each of its parts, `c`, `.before`, `.args`; the name of a module is one word."""
+    end, found = len(text) if end is None else end, []
     for match in TOKEN.finditer(text, start, end):
-        if not match.group().startswith("--"):
-            found.append(Token(match.group(), match.start(), match.end()))
+        word, at = match.group(), match.start()
+        if word.startswith("--"):
+            continue
+        parts = word.split(".")
+        if len(parts) > 1 and parts[0] and word[0] not in '"«' and parts[0] not in MADE and not parts[0][:1].isupper():
+            for n, part in enumerate(parts):
+                part = f".{part}" if n else part
+                found.append(Token(part, at, at + len(part)))
+                at += len(part)
+        else:
+            found.append(Token(word, at, match.end()))
     return found
 
 
@@ -73,8 +84,17 @@ def is_operator(word):
     return bool(OPERATOR.match(word)) and word not in ("→", "λ", ",", ";", "=", ":", "@")
 
 
-def begins_a_path(found, i):
-    return not i or found[i - 1].text in BEFORE_A_PATH or is_operator(found[i - 1].text)
+def is_argument(found, i):
+    """Whether the word at i stands behind another part of an application."""
+    return bool(i) and found[i - 1].text not in BEFORE_A_PATH and not is_operator(found[i - 1].text)
+
+
+def path_end(found, i):
+    """Where the parts of the path end that the word at i begins: the parts stand close together."""
+    j = i + 1
+    while j < len(found) and found[j].text.startswith(".") and len(found[j].text) > 1 and found[j].start == found[j - 1].end:
+        j += 1
+    return j
 
 
 IMPORT = re.compile(r"(?m)^use (\S+)\.\{([^{}]*)\}\n")
@@ -90,7 +110,7 @@ def without_idle_imports(old, new):
     before, after = cited(old), cited(new)
 
     def is_in(name, words):
-        return all(part in words for part in name.split("_") if part) if "_" in name else name in words
+        return all(part in words for part in name.split("◌") if part) if "◌" in name else name in words
 
     def kept(match):
         names = [name.strip() for name in match.group(2).split(",") if name.strip()]
