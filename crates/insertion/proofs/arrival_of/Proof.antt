@@ -7,39 +7,26 @@ use borrow.Author.Rules.{rules}
 use Rattle.insertion.proofs.arrival_of.Statement.{statement}
 use Rattle.insertion.proofs.arrival_of.Tie as tie
 
-abbrev start : tie.After-place-of → tie.Start
-start c = c.before.before.before
-
--- from the opposite side's count to the contract as it was read
-abbrev listed : tie.After-by-side → tie.After-listed-at
-listed c = c.before.before.before.before
-
-taker-of-requires : tie.Need-taker-of-requires
+taker-of-requires : tie.Need-taker_of-taker-requires
 taker-of-requires c κs =
-    let stands = listed c in
-    let begun = start stands.before in
-    let pre = begun.pre in (
+    let pre = c.requires in (
       pre.account_low,
       pre.contract_low,
-      arrival_room begun.args.state begun.args.buys.now begun.args.sells.now begun.args.o
-          c.before.side-area.ensures stands.before.place_of.ensures stands.listed_at.ensures c.by_side.ensures pre,
+      arrival_room c.args.state c.args.buys.now c.args.sells.now c.args.o
+          c.side_area-area.ensures c.place_of.ensures c.listed_at-listed.ensures c.by_side-count.ensures pre,
     )
 
-add-listed : tie.Need-overflow-add-listed
+add-listed : tie.Need-overflow_add-listed
 add-listed c =
-    let stands = listed c.before.before in
-    omega (arith, (start stands.before).requires.stamp, ap (λ (l : Listed). l.nextstamp) stands.listed_at.ensures)
+    omega (arith, c.requires.stamp, ap (λ (l : Listed). l.nextstamp) c.listed_at-listed.ensures)
 
 returns : tie.Need-returns
 returns c =
-    let counted = c.before.before in
-    let stands = listed counted in
-    let begun = start stands.before in
-    arrival_made begun.args.state begun.args.buys.now begun.args.sells.now begun.args.o counted.before.side-area.ensures
-    stands.before.place_of.ensures stands.listed_at.ensures counted.by_side.ensures _ _ _ c.before.taker-of.ensures
+    arrival_made c.args.state c.args.buys.now c.args.sells.now c.args.o c.side_area-area.ensures
+    c.place_of.ensures c.listed_at-listed.ensures c.by_side-count.ensures _ _ _ c.taker_of-taker.ensures
 
-pub arrival-of-spec : {M : Type 1} → statement M
-arrival-of-spec = tie.close (tie.spec
+pub arrival_of_spec : {M : Type 1} → statement M
+arrival_of_spec = tie.close (tie.spec
     (λ c κs. search rules)
     (λ c κs. search rules)
     (λ c κs. search rules)

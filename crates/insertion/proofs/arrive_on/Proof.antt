@@ -6,36 +6,20 @@ use borrow.Author.Rules.{rules}
 use Rattle.insertion.proofs.arrive_on.Statement.{statement}
 use Rattle.insertion.proofs.arrive_on.Tie as tie
 
-abbrev start : tie.After-rests-alone → tie.Start
-start c = c.before.before.before
-
--- from the limit back to the test that it rests alone
-abbrev passed : tie.After-limit-of → tie.Else1
-passed c =
-    let listed = c.before.before.before.before in
-    listed.before
-
-rest-requires : tie.Need-rest-requires
+rest-requires : tie.Need-rest-resting-requires
 rest-requires c κs =
-    let rested = c.before in
-    let limit = rested.before in
-    let tested = (passed limit).before in
-    alone_room (start tested).pre limit.limit-of.ensures (sym tested.rests-alone.ensures ∙ not-false _ (passed limit).if1.false) rested.rested-alone.ensures
+    alone_room c.requires c.limit_of-price.ensures (sym c.rests_alone.ensures ∙ c.if-not-rests_alone.false) c.rested_alone-rested.ensures
 
-returns-2 : tie.Need-returns-2
+returns-2 : tie.Need-returns
 returns-2 c =
-    let rest = c.before.before.before.before in
-    let rested = rest.before.before in
-    let limit = rested.before in
-    let tested = (passed limit).before in
-    alone_arrived (start tested).pre limit.limit-of.ensures (sym tested.rests-alone.ensures ∙ not-false _ (passed limit).if1.false) rested.rested-alone.ensures
-    rest.rest.ensures c.before.Entered-on.ensures c.accepted.ensures
+    alone_arrived c.requires c.limit_of-price.ensures (sym c.rests_alone.ensures ∙ c.if-not-rests_alone.false) c.rested_alone-rested.ensures
+    c.rest-resting.ensures c.entered_on-after.ensures c.accepted.ensures
 
-pub arrive-on-spec : {M : Type 1} → statement M
-arrive-on-spec = tie.close (tie.spec
+pub arrive_on_spec : {M : Type 1} → statement M
+arrive_on_spec = tie.close (tie.spec
     (λ c κs. search rules)
     (λ c κs. search rules)
-    (λ c. left_trading (sym c.before.before.rests-alone.ensures ∙ not-true _ c.before.if1.true) c.left.ensures)  -- returns
+    (λ c. left_trading (sym c.rests_alone.ensures ∙ c.if-not-rests_alone.true) c.left.ensures)  -- returns-then-not-rests_alone
     (λ c κs. search rules)
     (λ c κs. search rules)
     rest-requires

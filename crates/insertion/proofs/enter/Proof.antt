@@ -5,28 +5,21 @@ use Rattle.insertion.proofs.enter.Statement.{statement}
 use Rattle.insertion.proofs.enter.Tie as tie
 
 -- from the answer that was read to what was decided, and from there to the start
-abbrev decided : tie.After-answer → tie.After-arrive
+abbrev decided : tie.After-answer-1 → tie.After-arrive-decision
 decided c =
-    let bought = c.before.before.before.before in
-    bought.before
+    c.before.before.before.before.before
 
-abbrev start : tie.After-arrive → tie.Start
+abbrev start : tie.After-arrive-decision → tie.Start
 start c =
-    let lent = c.before.before in
-    lent.before.before.before.before
+    c.before.before.before.before.before.before
 
 trade-requires : tie.Need-trade-requires
 trade-requires c κs =
-    let matched = c.before.before.before in
-    let known = decided matched.before in
-    trades_then known.arrive.ensures matched.match.keys2 (start known).pre
+    trades_then c.arrive-decision.ensures c.in_default.in_default-own.keys2 c.requires
 
-returns-2 : tie.Need-returns-2
+returns-2 : tie.Need-returns-in_default
 returns-2 c =
-    let back = c.before.before.before.before in
-    let done = back.before.before in
-    let matched = done.before.before.before.before in
-    traded_then (decided matched.before).arrive.ensures matched.match.keys2 _ _ done.trade.ensures
+    traded_then c.arrive-decision.ensures c.in_default.in_default-own.keys2 _ _ c.trade.ensures
 
 pub enter_spec : {M : Type 1} → statement M
 enter_spec = tie.close (tie.spec
@@ -35,7 +28,7 @@ enter_spec = tie.close (tie.spec
     trade-requires
     (λ c. search rules)
     (λ c. search rules)
-    (λ c. listing_entered (decided c.before.before.before).arrive.ensures c.before.update.given.1 _ _)  -- returns
+    (λ c. listing_entered c.arrive-decision.ensures c.in-Listing.is _ _)  -- returns-in-Listing
     (λ c. search rules)
     (λ c. search rules)
     (λ c. search rules)

@@ -13,55 +13,38 @@ use borrow.Author.Rules.{rules}
 use Rattle.insertion.proofs.insert.Statement.{statement}
 use Rattle.insertion.proofs.insert.Tie as tie
 
-abbrev start : tie.After-code-of → tie.Start
-start c =
-    let known = c.before.before.before.before in
-    known.before.before
+accepted : (c : tie.Else-code-ne0) → code_of (exchange_of (memory c.args.state c.args.buys.now c.args.sells.now c.args.trades.now)) (Insert c.args.o) ≡ 0
+accepted c = sym c.code_of-code.ensures ∙ c.if-code-ne0.false
 
-accepted : (c : tie.Else1) → let here = start c.before in
-    code_of (exchange_of (memory here.args.state here.args.buys.now here.args.sells.now here.args.trades.now)) (Insert here.args.o) ≡ 0
-accepted c = sym c.before.code_of_lem.ensures ∙ c.if1.false
-
--- from the order about to enter to the last test
-abbrev passed : tie.After-arrival-of → tie.Else1
-passed c = c.before.before.before
-
-may_enter : (c : tie.After-arrival-of) → let here = start (passed c).before in
-    ArrivalReady here.args.state.accounts c.arrival-of.result here.args.buys.now here.args.sells.now here.args.trades.now
+may_enter : (c : tie.After-arrival_of-a) → ArrivalReady c.args.state.accounts c.arrival_of-a.result c.args.buys.now c.args.sells.now c.args.trades.now
 may_enter c =
-    let here = start (passed c).before in
-    ready here.pre.0 here.args.o _ _ _ (enterable here.pre.0 here.args.o (accepted (passed c))) c.arrival-of.ensures
+    ready c.requires.0 c.args.o _ _ _ (enterable c.requires.0 c.args.o (accepted c.before)) c.arrival_of-a.ensures
 
-returns : tie.Need-returns
-returns c = refusal_decided (refusal _ _ _ _ _ _ (omega (arith, c.before.if1.true)) (sym c.before.before.code_of_lem.ensures) refl) c.refused.ensures
+returns : tie.Need-returns-then-code-ne0
+returns c = refusal_decided (refusal _ _ _ _ _ _ (omega (arith, c.if-code-ne0.true)) (sym c.code_of-code.ensures) refl) c.refused.ensures
 
-returns-2 : tie.Need-returns-2
+returns-2 : tie.Need-returns
 returns-2 c =
-    let called = c.before.before.before.before in
-    let arrival = called.before.before.before in
-    let here = start (passed arrival).before in
-    let may = enterable here.pre.0 here.args.o (accepted (passed arrival)) in
-    arrived_decided (may_enter arrival)
+    let may = enterable c.requires.0 c.args.o (accepted c.before.before.before.before.before.before.before.before) in
+    arrived_decided (may_enter c.before.before.before.before.before.before.before)
     (λ r buys' sells' trades' k.
-    insert_entered here.pre.0 here.args.o (accepted (passed arrival)) (order_entered here.pre.0 here.args.o _ _ _ may arrival.arrival-of.ensures buys' sells' k))
-    called.arrive.ensures
+    insert_entered c.requires.0 c.args.o (accepted c.before.before.before.before.before.before.before.before) (order_entered c.requires.0 c.args.o _ _ _ may c.arrival_of-a.ensures buys' sells' k))
+    c.arrive.ensures
 
-arrival-of-requires : tie.Need-arrival-of-requires
+arrival-of-requires : tie.Need-arrival_of-a-requires
 arrival-of-requires c κs =
-    let test = c.before.before in
-    let here = start test.before in
-    known here.pre.0 here.args.o _ _ _ (enterable here.pre.0 here.args.o (accepted test))
+    known c.requires.0 c.args.o _ _ _ (enterable c.requires.0 c.args.o (accepted c))
 
-pub insert-spec : {M : Type 1} → statement M
-insert-spec =
+pub insert_spec : {M : Type 1} → statement M
+insert_spec =
     tie.close
     (tie.spec
-    (λ c κs. let known = c.before.before in known.before.before.before.requires)  -- code-of-requires
+    (λ c κs. c.requires)  -- code_of-code-requires
     (λ c κs. search rules)
     (λ c. search rules)
     (λ c. search rules)
     returns
-    (λ c. let here = start c.before.before.before in omega (arith, next_low here.pre.0 here.args.o (accepted c.before.before)))  -- add-arrival-of
+    (λ c. omega (arith, next_low c.requires.0 c.args.o (accepted c)))  -- overflow_add-number
     arrival-of-requires
     (λ c κs. (may_enter c.before.before).arrives)  -- arrive-requires
     (λ c. search rules)

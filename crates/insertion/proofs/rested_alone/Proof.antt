@@ -6,14 +6,13 @@ use Rattle.insertion.proofs.rested_alone.Statement.{statement}
 use Rattle.insertion.proofs.rested_alone.Tie as tie
 
 -- the order, from the test of the phase
-abbrev order : tie.After-struct-known → Arrival
+abbrev order : tie.After-struct_known-1 → Arrival
 order c =
-    let listed = c.before.before.before in
-    listed.before.args.a
+    c.args.a
 
-pub rested-alone-spec : {M : Type 1} → statement M
-rested-alone-spec = tie.close (tie.spec
-    (λ c. rested_auction (order c.before) c.if1.true)  -- returns
+pub rested_alone_spec : {M : Type 1} → statement M
+rested_alone_spec = tie.close (tie.spec
+    (λ c. rested_auction (order c.before) c.if-terms-eq-AUCTION.true)  -- returns-then-terms-eq-AUCTION
     (λ c κs. search rules)
-    (λ c. let day = c.before in rested_day (order day.before.before) day.before.if1.false day.is-day.ensures c.if2.true)  -- returns-2
-    (λ c. let day = c.before in rested_none (order day.before.before) day.before.if1.false day.is-day.ensures c.if2.false))  -- returns-3
+    (λ c. rested_day (order c.before.before.before) c.if-terms-eq-AUCTION.false c.is_day.ensures c.if-is_day.true)  -- returns-then-is_day
+    (λ c. rested_none (order c.before.before.before) c.if-terms-eq-AUCTION.false c.is_day.ensures c.if-is_day.false))  -- returns-3

@@ -4,20 +4,14 @@ use borrow.Author.Rules.{rules}
 use Rattle.insertion.proofs.rests_alone.Statement.{statement}
 use Rattle.insertion.proofs.rests_alone.Tie as tie
 
-abbrev start : tie.After-struct-known → tie.Start
-start c = c.before.before.before.before
-
-returns-3 : tie.Need-returns-3
+returns-3 : tie.Need-returns
 returns-3 c =
-    let read = c.before.before in
-    let elsewhere = read.before.before in
-    let begun = start elsewhere.before in
-    alone_unmet begun.args.a begun.args.opposite.now begun.args.count elsewhere.if1.false read.before.if2.false read.order_at_lem.ensures c.is-counterpart.ensures
+    alone_unmet c.args.a c.args.opposite.now c.args.count c.if-terms-eq-AUCTION.false c.if-count-eq0.false c.order_at-first.ensures c.is_counterpart.ensures
 
-pub rests-alone-spec : {M : Type 1} → statement M
-rests-alone-spec = tie.close (tie.spec
-    (λ c. let begun = start c.before in alone_auction begun.args.a begun.args.opposite.now begun.args.count c.if1.true)  -- returns
-    (λ c. let begun = start c.before.before in alone_empty begun.args.a begun.args.opposite.now begun.args.count c.before.if1.false c.if2.true)  -- returns-2
+pub rests_alone_spec : {M : Type 1} → statement M
+rests_alone_spec = tie.close (tie.spec
+    (λ c. alone_auction c.args.a c.args.opposite.now c.args.count c.if-terms-eq-AUCTION.true)  -- returns-then-terms-eq-AUCTION
+    (λ c. alone_empty c.args.a c.args.opposite.now c.args.count c.if-terms-eq-AUCTION.false c.if-count-eq0.true)  -- returns-then-count-eq0
     (λ c κs. search rules)
     (λ c κs. search rules)
     returns-3)
