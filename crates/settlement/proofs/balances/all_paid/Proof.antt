@@ -20,20 +20,20 @@ decreases-loop trades state closed closes opened opens used priced accounts₀ c
 
 put-all-due-requires : tie.Need-put_all_due-requires invariant-loop decreases-loop
 put-all-due-requires c κs =
-    (c.requires.accounts, c.add_up.auto.1.1.1.0, refl)
+    (c.requires.accounts, c.add_up.auto.lots, refl)
 
 -- the sums are the day's, in rooms of one word for each slot
 loop-holds : tie.Need-loop-a-init invariant-loop decreases-loop
 loop-holds c =
     (
       day_summed c.requires
-          (record { closing = c.add_up.ensures; opening = c.add_up-2.ensures; c.before.before.before.before.before.before.before.before = c.put_all_due.ensures; c.before.before.before.before = c.take_first.ensures.0 })
+          (record { closing = c.add_up.ensures; opening = c.add_up-2.ensures; due = c.put_all_due.ensures; taken = c.take_first.ensures.0 })
           (record {
-            closed_room = c.add_up.auto.1.1.1.0;
-            closes_room = c.add_up.auto.1.1.1.1.0;
-            opened_room = c.add_up-2.auto.1.1.1.0;
-            opens_room = c.add_up-2.auto.1.1.1.1.0;
-            used_room = c.take_first.auto.1.1.1.0;
+            closed_room = c.add_up.auto.lots;
+            closes_room = c.add_up.auto.value;
+            opened_room = c.add_up-2.auto.lots;
+            opens_room = c.add_up-2.auto.value;
+            used_room = c.take_first.auto.used;
           }),
       paying_none _ _ _,
     )
@@ -74,7 +74,7 @@ all_paid_spec = tie.close (tie.spec
     put-all-due-requires
     (λ c. search rules)
     (λ c. search rules)
-    (λ c κs. (search rules, c.put_all_due.auto.1.1.0, refl))  -- take_first-requires
+    (λ c κs. (search rules, c.put_all_due.auto.left, refl))  -- take_first-requires
     loop-holds
     (λ c. omega (arith, c.loop-a.invariant.0.payable.accounts))  -- offset_bounds-state-a
     (λ c. omega (arith, c.loop-a.invariant.0.payable.accounts))  -- bounds-state-a

@@ -16,7 +16,7 @@ abbrev decreases-loop : tie.decreases-loop-c
 decreases-loop contracts account next₀ c₀ next c = contracts - c
 
 -- the array has its places
-four : (c : tie.Start invariant-loop decreases-loop) → length c.args.t1.holdings ≡ 4
+four : (c : tie.Start invariant-loop decreases-loop) → length c.args.account.holdings ≡ 4
 four c = search (rules, unmapped)
 
 loop-again : tie.Need-loop-c-preserved invariant-loop decreases-loop

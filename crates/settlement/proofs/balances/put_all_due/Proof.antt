@@ -18,7 +18,7 @@ put-due-requires c κs =
 
 put-due-requires-2 : tie.Need-put_due-requires-in-loop-k invariant-loop decreases-loop
 put-due-requires-2 c κs =
-    (account_at_lem _ _ c.loop-k-test.true c.requires.0, contract_at_lem _, c.requires.1, c.put_due.auto.1.0 ∙ c.loop-k.invariant.room)
+    (account_at_lem _ _ c.loop-k-test.true c.requires.0, contract_at_lem _, c.requires.1, c.put_due.auto.left ∙ c.loop-k.invariant.room)
 
 loop-again : tie.Need-loop-k-preserved invariant-loop decreases-loop
 loop-again c =

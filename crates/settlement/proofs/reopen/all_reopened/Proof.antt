@@ -19,7 +19,7 @@ abbrev decreases-loop : tie.decreases-loop-c
 decreases-loop count contracts prices next₀ c₀ next c = count - c
 
 -- the array has its places
-four : (c : tie.Start invariant-loop decreases-loop) → length c.args.t1 ≡ 4
+four : (c : tie.Start invariant-loop decreases-loop) → length c.args.contracts ≡ 4
 four c = search (rules, unmapped)
 
 loop-again : tie.Need-loop-c-preserved invariant-loop decreases-loop
