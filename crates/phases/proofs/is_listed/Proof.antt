@@ -4,14 +4,14 @@ use Rattle.phases.proofs.Changes.{from_pre_open, from_continuous, from_no_tradin
 use Rattle.phases.proofs.is_listed.Statement.{statement}
 use Rattle.phases.proofs.is_listed.Tie as tie
 
-pub is-listed-spec : {M : Type 1} → statement M
-is-listed-spec = tie.close (tie.spec
-    (λ c. rw (c.before.if1.true, from_pre_open, c.if2.true))  -- returns
-    (λ c. rw (c.before.before.if1.true, from_pre_open, c.if3.true))  -- returns-2
-    (λ c. rw (c.before.before.if1.true, from_pre_open, ne_eqb _ 4 c.before.if2.false, ne_eqb _ 1 c.if3.false))  -- returns-3
-    (λ c. rw (c.before.if4.true, from_continuous, c.if5.true))  -- returns-4
-    (λ c. rw (c.before.if4.true, from_continuous, ne_eqb _ _ c.if5.false))  -- returns-5
-    (λ c. rw (c.before.if6.true, from_no_trading, c.if7.true))  -- returns-6
-    (λ c. rw (c.before.if6.true, from_no_trading, ne_eqb _ _ c.if7.false))  -- returns-7
-    (λ c. rw (c.if8.true, from_auction))  -- returns-8
-    (λ c. rw (from_other _ _ c.before.before.before.if1.false c.before.before.if4.false c.before.if6.false c.if8.false)))  -- returns-9
+pub is_listed_spec : {M : Type 1} → statement M
+is_listed_spec = tie.close (tie.spec
+    (λ c. rw (c.if-from-eq-PRE_OPEN.true, from_pre_open, c.if-to-eq-AUCTION.true))  -- returns-then-to-eq-AUCTION
+    (λ c. rw (c.if-from-eq-PRE_OPEN.true, from_pre_open, c.if-to-eq-CONTINUOUS.true))  -- returns-then-to-eq-CONTINUOUS
+    (λ c. rw (c.if-from-eq-PRE_OPEN.true, from_pre_open, ne_eqb _ 4 c.if-to-eq-AUCTION.false, ne_eqb _ 1 c.if-to-eq-CONTINUOUS.false))  -- returns-else-to-eq-CONTINUOUS
+    (λ c. rw (c.if-from-eq-CONTINUOUS.true, from_continuous, c.if-to-eq-NO_TRADING.true))  -- returns-then-to-eq-NO_TRADING
+    (λ c. rw (c.if-from-eq-CONTINUOUS.true, from_continuous, ne_eqb _ _ c.if-to-eq-NO_TRADING.false))  -- returns-else-to-eq-NO_TRADING
+    (λ c. rw (c.if-from-eq-NO_TRADING.true, from_no_trading, c.if-to-eq-CONTINUOUS-2.true))  -- returns-then-to-eq-CONTINUOUS-2
+    (λ c. rw (c.if-from-eq-NO_TRADING.true, from_no_trading, ne_eqb _ _ c.if-to-eq-CONTINUOUS-2.false))  -- returns-else-to-eq-CONTINUOUS-2
+    (λ c. rw (c.if-from-eq-AUCTION.true, from_auction))  -- returns-then-from-eq-AUCTION
+    (λ c. rw (from_other _ _ c.if-from-eq-PRE_OPEN.false c.if-from-eq-CONTINUOUS.false c.if-from-eq-NO_TRADING.false c.if-from-eq-AUCTION.false)))  -- returns-9

@@ -10,25 +10,21 @@ use Rattle.engine.proofs.Tests.{place_below}
 use Rattle.phases.proofs.is_match.Statement.{statement}
 use Rattle.phases.proofs.is_match.Tie as tie
 
--- back to the call of `is-absent`
-abbrev Is-absent : tie.After-contracts → tie.After-is-absent
-Is-absent c = c.before.before.before
+present : (c : tie.Else-is_absent) → is_absent c.args.contract c.args.state.contractcount ≡ false
+present c = sym c.is_absent.ensures ∙ c.if-is_absent.false
 
-present : (c : tie.Else2) → is_absent c.before.before.before.args.contract c.before.before.before.args.state.contractcount ≡ false
-present c = sym c.before.is-absent.ensures ∙ c.if2.false
+place : (c : tie.After-place_of-place) → c.place_of-place.result < c.args.state.contractcount
+place c = rw c.place_of-place.ensures (place_below c.args.contract c.args.state.contractcount (present c.before)).1
 
-place : (c : tie.After-place-of) → c.place_of.result < c.before.before.before.before.args.state.contractcount
-place c = rw c.place_of.ensures (place_below c.before.before.before.before.args.contract c.before.before.before.before.args.state.contractcount (present c.before)).1
+returns-3 : tie.Need-returns
+returns-3 c = match_by_phase _ _ _ c.if-phase-ne-CONTINUOUS.false (present c.before.before.before.before) c.place_of-place.ensures
 
-returns-3 : tie.Need-returns-3
-returns-3 c = match_by_phase _ _ _ (Is-absent c.before.before).before.if1.false (present c.before.before.before.before) c.before.before.before.place_of.ensures
-
-pub is-match-spec : {M : Type 1} → statement M
-is-match-spec = tie.close (tie.spec
-    (λ c. other_phase _ _ _ c.if1.true)  -- returns
-    (λ c κs. search rules)  -- is-absent-requires
-    (λ c. no_such_contract _ _ _ c.before.before.if1.false (sym c.before.is-absent.ensures ∙ c.if2.true))  -- returns-2
-    (λ c κs. (place_below _ _ (present c)).0)  -- place-of-requires
-    (λ c. search rules)  -- mul-terms
-    (λ c. omega (arith, place c.before, (Is-absent c).before.before.requires))  -- array-copy-out-terms
+pub is_match_spec : {M : Type 1} → statement M
+is_match_spec = tie.close (tie.spec
+    (λ c. other_phase _ _ _ c.if-phase-ne-CONTINUOUS.true)  -- returns-then-phase-ne-CONTINUOUS
+    (λ c κs. search rules)  -- is_absent-requires
+    (λ c. no_such_contract _ _ _ c.if-phase-ne-CONTINUOUS.false (sym c.is_absent.ensures ∙ c.if-is_absent.true))  -- returns-then-is_absent
+    (λ c κs. (place_below _ _ (present c)).0)  -- place_of-place-requires
+    (λ c. search rules)  -- offset_bounds-contracts-place
+    (λ c. omega (arith, place c.before, c.requires))  -- bounds-contracts-place
     returns-3)

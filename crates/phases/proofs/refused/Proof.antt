@@ -3,5 +3,5 @@ use borrow.Author.Rules.{rules}
 use Rattle.phases.proofs.refused.Statement.{statement}
 use Rattle.phases.proofs.refused.Tie as tie
 
-pub refused-spec : {M : Type 1} → statement M
-refused-spec = tie.close (tie.spec (λ c κs. search rules) (λ c. rw c.listed_at.ensures))  -- returns
+pub refused_spec : {M : Type 1} → statement M
+refused_spec = tie.close (tie.spec (λ c κs. search rules) (λ c. rw c.listed_at.ensures))  -- returns

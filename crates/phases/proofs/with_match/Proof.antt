@@ -3,5 +3,5 @@ use borrow.Author.Rules.{rules}
 use Rattle.phases.proofs.with_match.Statement.{statement}
 use Rattle.phases.proofs.with_match.Tie as tie
 
-pub with-match-spec : {M : Type 1} → statement M
-with-match-spec = tie.close (tie.spec (λ c κs. search rules) (λ c. rw c.before.listed_at.ensures))  -- returns
+pub with_match_spec : {M : Type 1} → statement M
+with_match_spec = tie.close (tie.spec (λ c κs. search rules) (λ c. rw c.listed_at-listed.ensures))  -- returns
