@@ -7,74 +7,56 @@ use Rattle.rules.specs.Memory.{exchange_of, memory}
 use Rattle.refusals.proofs.codes.account_code.Statement.{statement}
 use Rattle.refusals.proofs.codes.account_code.Tie as tie
 
--- back to the start
-abbrev Begun : tie.After-place-of → tie.Start
-Begun c = c.before.before.before.before
-
--- back to the call of `place_of`
-abbrev Place-of : tie.After-mark → tie.After-place-of
-Place-of c = c.before.before.before.before.before.before.before
-
--- back to the call whose answer is `own`
-abbrev Own : tie.After-lots-refused → tie.After-side-area
-Own c = c.before.before.before.before.before
-
 -- 8, as the rules test it
-lots : (c : tie.After-lots-refused) → let start = Begun (Place-of c.before.before) in
-    c.lots-refused.result ≡ holding_refused (exchange_of (memory start.args.state start.args.buys.now start.args.sells.now start.args.trades.now)) start.args.o
+lots : (c : tie.After-lots_refused) → c.lots_refused.result ≡ holding_refused (exchange_of (memory c.args.state c.args.buys.now c.args.sells.now c.args.trades.now)) c.args.o
 lots c =
-    let start = Begun (Place-of c.before.before) in
-    lots_are start.pre.0 start.args.o start.pre.1 (Place-of c.before.before).place_of.ensures (Own c).side-area.ensures
-    c.before.before.before.before.side-count.ensures c.before.before.before.place-word.ensures c.before.before.mark.ensures
-    c.before.resting.ensures start.pre.3 c.lots-refused.ensures
+    lots_are c.requires.0 c.args.o c.requires.1 c.place_of-c.ensures c.side_area-own.ensures
+    c.side_count-count.ensures c.place_word.ensures c.mark.ensures
+    c.resting-rested.ensures c.requires.3 c.lots_refused.ensures
 
-element-copy-out-h : tie.Need-element-copy-out-h
+element-copy-out-h : tie.Need-bounds-who-c
 element-copy-out-h c =
-    let start = Begun c.before.before in
-    place_fits start.pre.0 start.args.o start.pre.1 c.before.before.place_of.ensures
+    place_fits c.requires.0 c.args.o c.requires.1 c.place_of-c.ensures
 
-side-count-requires : tie.Need-side-count-requires
+side-count-requires : tie.Need-side_count-count-requires
 side-count-requires c κs =
-    let start = Begun c.before.before.before.before in
-    place_fits start.pre.0 start.args.o start.pre.1 c.before.before.before.before.place_of.ensures
+    place_fits c.requires.0 c.args.o c.requires.1 c.place_of-c.ensures
 
-resting-requires : tie.Need-resting-requires
+resting-requires : tie.Need-resting-rested-requires
 resting-requires c κs =
-    let start = Begun (Place-of c) in
-    own_room start.pre.0 start.args.o start.pre.1 (Place-of c).place_of.ensures c.before.before.before.side-area.ensures c.before.before.side-count.ensures
+    own_room c.requires.0 c.args.o c.requires.1 c.place_of-c.ensures c.side_area-own.ensures c.side_count-count.ensures
 
-lots-refused-requires : tie.Need-lots-refused-requires
+lots-refused-requires : tie.Need-lots_refused-requires
 lots-refused-requires c κs =
-    let start = Begun (Place-of c.before) in
-    rested_low start.pre.0 start.args.o start.pre.1 (Place-of c.before).place_of.ensures c.before.before.before.before.side-area.ensures
-    c.before.before.before.side-count.ensures c.before.before.place-word.ensures c.before.mark.ensures c.resting.ensures
+    rested_low c.requires.0 c.args.o c.requires.1 c.place_of-c.ensures c.side_area-own.ensures
+    c.side_count-count.ensures c.place_word.ensures c.mark.ensures c.resting-rested.ensures
 
-returns : tie.Need-returns
+returns : tie.Need-returns-then-lots_refused
 unfolding first_of
-returns c = rw (← lots c.before, c.if1.true) refl
+returns c = rw (← lots c.before, c.if-lots_refused.true) refl
 
-returns-2 : tie.Need-returns-2
+returns-2 : tie.Need-returns-then-money_refused
 unfolding first_of
-returns-2 c = rw (← lots c.before.before.before, c.before.before.if1.false, ← c.before.money-refused.ensures, c.if2.true) refl
+returns-2 c = rw (← lots c.before.before.before, c.if-lots_refused.false, ← c.money_refused.ensures, c.if-money_refused.true) refl
 
-returns-3 : tie.Need-returns-3
+returns-3 : tie.Need-returns
 unfolding first_of
-returns-3 c = rw (← lots c.before.before.before, c.before.before.if1.false, ← c.before.money-refused.ensures, c.if2.false) refl
+returns-3 c = rw (← lots c.before.before.before, c.if-lots_refused.false, ← c.money_refused.ensures, c.if-money_refused.false) refl
 
-pub account-code-spec : {M : Type 1} → statement M
-account-code-spec = tie.close (tie.spec
-    (λ c κs. search rules)  -- place-of-requires
-    (λ c. search rules)  -- mul-terms
-    (λ c. let start = Begun c.before in place_fits start.pre.0 start.args.o start.pre.1 c.before.place_of.ensures)  -- array-copy-out-terms
-    (λ c. search rules)  -- mul-h
+pub account_code_spec : {M : Type 1} → statement M
+account_code_spec = tie.close (tie.spec
+    (λ c κs. search rules)  -- place_of-c-requires
+    (λ c. search rules)  -- offset_bounds-contracts-c
+    (λ c. place_fits c.requires.0 c.args.o c.requires.1 c.place_of-c.ensures)  -- bounds-contracts-c
+    (λ c. search rules)  -- offset_bounds-who-c
     element-copy-out-h
-    (λ c κs. search rules)  -- side-area-requires
+    (λ c κs. search rules)  -- side_area-own-requires
     side-count-requires
-    (λ c κs. search rules)  -- place-word-requires
+    (λ c κs. search rules)  -- place_word-requires
     (λ c κs. search rules)  -- mark-requires
     resting-requires
     lots-refused-requires
     returns
-    (λ c κs. search rules)  -- money-refused-requires
+    (λ c κs. search rules)  -- money_refused-requires
     returns-2
     returns-3)

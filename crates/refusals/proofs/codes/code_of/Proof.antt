@@ -10,65 +10,46 @@ use Rattle.refusals.proofs.Inserting.{present, place_fits, code_account, code_co
 use Rattle.refusals.proofs.codes.code_of.Statement.{statement}
 use Rattle.refusals.proofs.codes.code_of.Tie as tie
 
--- ---- what the first tests have shown
+account_there : (c : tie.Else-is_absent) → is_absent c.args.o.account c.args.state.accountcount ≡ false
+account_there c = sym c.is_absent.ensures ∙ c.if-is_absent.false
 
-abbrev begun : tie.After-is-absent → tie.Start
-begun c = c.before.before.before.before
+contract_there : (c : tie.Else-is_absent-2) → is_absent c.args.o.contract c.args.state.contractcount ≡ false
+contract_there c = sym c.is_absent-2.ensures ∙ c.if-is_absent-2.false
 
-abbrev start : tie.Else2 → tie.Start
-start c = begun c.before.before.before
-
-account_there : (c : tie.Else1) → is_absent (begun c.before).args.o.account (begun c.before).args.state.accountcount ≡ false
-account_there c = sym c.before.is-absent.ensures ∙ c.if1.false
-
-contract_there : (c : tie.Else2) → is_absent (start c).args.o.contract (start c).args.state.contractcount ≡ false
-contract_there c = sym c.before.is-absent2.ensures ∙ c.if2.false
-
-here : (c : tie.Else2) → Present (start c).args.state (start c).args.o
-here c = present (start c).requires.0 (start c).args.o (account_there c.before.before) (contract_there c)
+here : (c : tie.Else-is_absent-2) → Present c.args.state c.args.o
+here c = present c.requires.0 c.args.o (account_there c.before.before) (contract_there c)
 
 -- ---- the needs
 
-returns-2 : tie.Need-returns-2
+returns-2 : tie.Need-returns-then-is_absent-2
 returns-2 c =
-    let there = c.before.before in
-    let first = begun there.before in
-    code_contract first.pre.0 first.args.o (account_there there) (sym c.before.is-absent2.ensures ∙ c.if2.true)
+    code_contract c.requires.0 c.args.o (account_there c.before.before) (sym c.is_absent-2.ensures ∙ c.if-is_absent-2.true)
 
-array-copy-out-terms : tie.Need-array-copy-out-terms
+array-copy-out-terms : tie.Need-bounds-contracts-c
 array-copy-out-terms c =
-    let there = c.before.before in
-    place_fits (start there).requires.0 (start there).args.o (here there) c.before.place_of.ensures
+    place_fits c.requires.0 c.args.o (here c.before.before) c.place_of-c.ensures
 
-returns-3 : tie.Need-returns-3
+returns-3 : tie.Need-returns-then-not-takes_orders
 returns-3 c =
-    let named = c.before.before.before.before in
-    let there = named.before in
-    code_phase (start there).requires.0 (start there).args.o (account_there there.before.before) (contract_there there) named.place_of.ensures c.before.takes-orders.ensures
-    (not-true c.before.takes-orders.result c.if3.true)
+    code_phase c.requires.0 c.args.o (account_there c.before.before.before.before.before.before.before) (contract_there c.before.before.before.before.before) c.place_of-c.ensures c.takes_orders.ensures
+    (c.if-not-takes_orders.true)
 
-order-code-requires : tie.Need-order-code-requires
+order-code-requires : tie.Need-order_code-requires
 order-code-requires c κs =
-    let named = c.before.before.before.before in
-    let there = named.before in
-    let first = start there in
-    (first.pre.0, here there, held_here first.args.state first.args.o.account (account_there there.before.before) first.pre.1)
+    (c.requires.0, here c.before.before.before.before.before, held_here c.args.state c.args.o.account (account_there c.before.before.before.before.before.before.before) c.requires.1)
 
-returns-4 : tie.Need-returns-4
+returns-4 : tie.Need-returns
 returns-4 c =
-    let tested = c.before.before in
-    let named = tested.before.before.before in
-    let there = named.before in
-    code_order (start there).requires.0 (start there).args.o (account_there there.before.before) (contract_there there) named.place_of.ensures tested.takes-orders.ensures
-    (not-false tested.takes-orders.result c.before.if3.false) c.order-code.ensures
+    code_order c.requires.0 c.args.o (account_there c.before.before.before.before.before.before.before.before) (contract_there c.before.before.before.before.before.before) c.place_of-c.ensures c.takes_orders.ensures
+    (c.if-not-takes_orders.false) c.order_code.ensures
 
-pub code-of-spec : {M : Type 1} → statement M
-code-of-spec = tie.close (tie.spec
+pub code_of_spec : {M : Type 1} → statement M
+code_of_spec = tie.close (tie.spec
     (λ c κs. search rules)
-    (λ c. let first = begun c.before in code_account first.pre.0 first.args.o (sym c.before.is-absent.ensures ∙ c.if1.true))  -- returns
+    (λ c. code_account c.requires.0 c.args.o (sym c.is_absent.ensures ∙ c.if-is_absent.true))  -- returns-then-is_absent
     (λ c κs. search rules)
     returns-2
-    (λ c κs. (here c).contract_low)  -- place-of-requires
+    (λ c κs. (here c).contract_low)  -- place_of-c-requires
     (λ c. search rules)
     array-copy-out-terms
     (λ c κs. search rules)

@@ -12,59 +12,48 @@ use Rattle.engine.proofs.Tests.{place_below}
 use Rattle.refusals.proofs.codes.continuous_code.Statement.{statement}
 use Rattle.refusals.proofs.codes.continuous_code.Tie as tie
 
--- back to the test `absent != 0`
-abbrev Past-absent : tie.Else2 → tie.Else1
-Past-absent c = c.before.before.before.before.before
+account : (c : tie.Else-absent-ne0) → is_absent c.args.account c.args.state.accountcount ≡ false
+account c = c.absent_code-absent.ensures.account_in_use_lem c.if-absent-ne0.false
 
--- back to the test `absent != 0`
-abbrev Past-if1 : tie.Then2 → tie.Else1
-Past-if1 c = c.before.before.before.before.before
+contract : (c : tie.Else-absent-ne0) → is_absent c.args.contract c.args.state.contractcount ≡ false
+contract c = c.absent_code-absent.ensures.contract_in_use_lem c.if-absent-ne0.false
 
-account : (c : tie.Else1) → is_absent c.before.before.args.account c.before.before.args.state.accountcount ≡ false
-account c = c.before.absent-code.ensures.account_in_use_lem c.if1.false
-
-contract : (c : tie.Else1) → is_absent c.before.before.args.contract c.before.before.args.state.contractcount ≡ false
-contract c = c.before.absent-code.ensures.contract_in_use_lem c.if1.false
-
-returns : tie.Need-returns
+returns : tie.Need-returns-then-absent-ne0
 returns c =
     record {
-      first = λ d buys sells trades. one_absent d c.before.before.requires.1 buys sells trades _ _ _ c.before.absent-code.ensures c.if1.true;
-      account_in_use_lem = λ e. absurd (c.if1.true e);
+      first = λ d buys sells trades. one_absent d c.requires.1 buys sells trades _ _ _ c.absent_code-absent.ensures c.if-absent-ne0.true;
+      account_in_use_lem = λ e. absurd (c.if-absent-ne0.true e);
     }
 
-array-copy-out-terms : tie.Need-array-copy-out-terms
+array-copy-out-terms : tie.Need-bounds-contracts-place
 array-copy-out-terms c =
-    let start = c.before.before.before.before in
-    omega (arith, c.before.place_of.ensures, (place_below start.args.contract start.args.state.contractcount (contract c.before.before)).1, start.requires.0)
+    omega (arith, c.place_of-place.ensures, (place_below c.args.contract c.args.state.contractcount (contract c.before.before)).1, c.requires.0)
 
-returns-2 : tie.Need-returns-2
+returns-2 : tie.Need-returns-then-terms-ne-CONTINUOUS
 returns-2 c =
     record {
       first = λ d buys sells trades.
-          let there = Past-if1 c in
-          forbidden d there.before.before.pre.1 buys sells trades not_continuous _ _ [] (account there) (contract there)
-          (ap not (ne_eqb _ _ (rw c.before.before.before.before.place_of.ensures at c.if2.true)));
+          forbidden d c.requires.1 buys sells trades not_continuous _ _ [] (account c.before.before.before.before.before) (contract c.before.before.before.before.before)
+          (ap not (ne_eqb _ _ (rw c.place_of-place.ensures at c.if-terms-ne-CONTINUOUS.true)));
       account_in_use_lem = λ e. absurd (omega arith);
     }
 
-returns-3 : tie.Need-returns-3
+returns-3 : tie.Need-returns
 unfolding first_of
 returns-3 c =
     record {
       first = λ d buys sells trades.
-          let there = Past-absent c in
-          sym (allowed d there.before.before.pre.1 buys sells trades not_continuous _ _ [] (account there) (contract there)
-          (ap not (eq-eqb _ _ (rw c.before.before.before.before.place_of.ensures at c.if2.false))));
-      account_in_use_lem = λ e. account (Past-absent c);
+          sym (allowed d c.requires.1 buys sells trades not_continuous _ _ [] (account c.before.before.before.before.before) (contract c.before.before.before.before.before)
+          (ap not (eq-eqb _ _ (rw c.place_of-place.ensures at c.if-terms-ne-CONTINUOUS.false))));
+      account_in_use_lem = λ e. account c.before.before.before.before.before;
     }
 
-pub continuous-code-spec : {M : Type 1} → statement M
-continuous-code-spec = tie.close (tie.spec
-    (λ c κs. c.requires.1)  -- absent-code-requires
+pub continuous_code_spec : {M : Type 1} → statement M
+continuous_code_spec = tie.close (tie.spec
+    (λ c κs. c.requires.1)  -- absent_code-absent-requires
     returns
-    (λ c κs. let start = c.before.before in (place_below start.args.contract start.args.state.contractcount (contract c)).0)  -- place-of-requires
-    (λ c. search rules)  -- mul-terms
+    (λ c κs. (place_below c.args.contract c.args.state.contractcount (contract c)).0)  -- place_of-place-requires
+    (λ c. search rules)  -- offset_bounds-contracts-place
     array-copy-out-terms
     returns-2
     returns-3)

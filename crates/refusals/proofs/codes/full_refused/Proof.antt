@@ -1,30 +1,32 @@
 -- `codes::full_refused` meets its contract: the four tests in turn. Assumes nothing.
+use Rattle.std.proofs.Common.{ap}
+use Rattle.std.specs.Prelude.{not}
 use borrow.Author.Tests.{not-true, not-false, lt-leb, le-leb}
 use borrow.Author.Rules.{rules}
 use Rattle.refusals.proofs.codes.full_refused.Statement.{statement}
 use Rattle.refusals.proofs.codes.full_refused.Tie as tie
 
-returns-2 : tie.Need-returns-2
-returns-2 c = rw (← c.before.before.is-day.ensures, not-false c.before.before.is-day.result c.before.if1.false, lt-leb _ _ c.if2.true)
+returns-2 : tie.Need-returns-then-own-lt-MAX_RESTING
+returns-2 c = rw (← c.is_day.ensures, c.if-not-is_day.false, lt-leb _ _ c.if-own-lt-MAX_RESTING.true)
 
-returns-3 : tie.Need-returns-3
-returns-3 c = rw (← c.before.before.before.is-day.ensures, not-false c.before.before.before.is-day.result c.before.before.if1.false, le-leb _ _ c.before.if2.false, c.if3.true)
+returns-3 : tie.Need-returns-then-auction
+returns-3 c = rw (← c.is_day.ensures, c.if-not-is_day.false, le-leb _ _ c.if-own-lt-MAX_RESTING.false, c.if-auction.true)
 
-returns-4 : tie.Need-returns-4
+returns-4 : tie.Need-returns
 returns-4 c =
     rw (
-      ← c.before.before.before.before.is-day.ensures,
-      not-false c.before.before.before.before.is-day.result
-          c.before.before.before.if1.false,
-      le-leb _ _ c.before.before.if2.false,
-      c.before.if3.false,
-    ) c.is-short.ensures
+      ← c.is_day.ensures,
+      not-false c.is_day.result
+          (ap not c.if-not-is_day.false),
+      le-leb _ _ c.if-own-lt-MAX_RESTING.false,
+      c.if-auction.false,
+    ) c.is_short.ensures
 
-pub full-refused-spec : {M : Type 1} → statement M
-full-refused-spec = tie.close (tie.spec
-    (λ c κs. search rules)  -- is-day-requires
-    (λ c. rw (← c.before.is-day.ensures, not-true c.before.is-day.result c.if1.true))  -- returns
+pub full_refused_spec : {M : Type 1} → statement M
+full_refused_spec = tie.close (tie.spec
+    (λ c κs. search rules)  -- is_day-requires
+    (λ c. rw (← c.is_day.ensures, c.if-not-is_day.true))  -- returns-then-not-is_day
     returns-2
     returns-3
-    (λ c κs. search rules)  -- is-short-requires
+    (λ c κs. search rules)  -- is_short-requires
     returns-4)

@@ -4,12 +4,12 @@ use borrow.Author.Tests.{not-true, not-false}
 use Rattle.refusals.proofs.codes.is_limit_day.Statement.{statement}
 use Rattle.refusals.proofs.codes.is_limit_day.Tie as tie
 
-returns-2 : tie.Need-returns-2
-returns-2 c = rw (← c.before.before.is_limit.ensures, not-false c.before.before.is_limit.result c.before.if1.false) c.is-day.ensures
+returns-2 : tie.Need-returns
+returns-2 c = rw (← c.is_limit.ensures, c.if-not-is_limit.false) c.is_day.ensures
 
-pub is-limit-day-spec : {M : Type 1} → statement M
-is-limit-day-spec = tie.close (tie.spec
-    (λ c κs. search rules)  -- is-limit-requires
-    (λ c. rw (← c.before.is_limit.ensures, not-true c.before.is_limit.result c.if1.true))  -- returns
-    (λ c κs. search rules)  -- is-day-requires
+pub is_limit_day_spec : {M : Type 1} → statement M
+is_limit_day_spec = tie.close (tie.spec
+    (λ c κs. search rules)  -- is_limit-requires
+    (λ c. rw (← c.is_limit.ensures, c.if-not-is_limit.true))  -- returns-then-not-is_limit
+    (λ c κs. search rules)  -- is_day-requires
     returns-2)

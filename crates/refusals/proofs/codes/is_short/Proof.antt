@@ -4,8 +4,8 @@ use Rattle.refusals.proofs.Arrivals.{facing_fillable}
 use Rattle.refusals.proofs.codes.is_short.Statement.{statement}
 use Rattle.refusals.proofs.codes.is_short.Tie as tie
 
-pub is-short-spec : {M : Type 1} → statement M
-is-short-spec = tie.close (tie.spec
-    (λ c κs. (c.before.requires.queue.few, c.before.requires.queue.room))  -- fillable-front-requires
+pub is_short_spec : {M : Type 1} → statement M
+is_short_spec = tie.close (tie.spec
+    (λ c κs. (c.requires.queue.few, c.requires.queue.room))  -- fillable_front-requires
     (λ c κs. search rules)  -- wide64-requires
-    (λ c. rw (c.wide64.ensures, c.before.fillable-front.ensures, facing_fillable c.before.before.before.requires)))  -- returns
+    (λ c. rw (c.wide64.ensures, c.fillable_front.ensures, facing_fillable c.requires)))  -- returns

@@ -4,12 +4,12 @@ use borrow.Author.Rules.{rules}
 use Rattle.refusals.proofs.codes.kill_refused.Statement.{statement}
 use Rattle.refusals.proofs.codes.kill_refused.Tie as tie
 
-returns-2 : tie.Need-returns-2
-returns-2 c = rw (← c.before.before.is-kill.ensures, not-false c.before.before.is-kill.result c.before.if1.false) c.is-short.ensures
+returns-2 : tie.Need-returns
+returns-2 c = rw (← c.is_kill.ensures, c.if-not-is_kill.false) c.is_short.ensures
 
-pub kill-refused-spec : {M : Type 1} → statement M
-kill-refused-spec = tie.close (tie.spec
-    (λ c κs. search rules)  -- is-kill-requires
-    (λ c. rw (← c.before.is-kill.ensures, not-true c.before.is-kill.result c.if1.true))  -- returns
-    (λ c κs. search rules)  -- is-short-requires
+pub kill_refused_spec : {M : Type 1} → statement M
+kill_refused_spec = tie.close (tie.spec
+    (λ c κs. search rules)  -- is_kill-requires
+    (λ c. rw (← c.is_kill.ensures, c.if-not-is_kill.true))  -- returns-then-not-is_kill
+    (λ c κs. search rules)  -- is_short-requires
     returns-2)

@@ -7,121 +7,82 @@ use Rattle.refusals.proofs.Inserting.{place_fits, terms_in_range_lem, fields_are
 use Rattle.refusals.proofs.codes.order_code.Statement.{statement}
 use Rattle.refusals.proofs.codes.order_code.Tie as tie
 
--- from the test of its own fields to the start, and to the contract's place
-abbrev Begun : tie.After-fields-code → tie.Start
-Begun c = c.before.before.before.before.before.before.before.before
-
-abbrev Named : tie.After-fields-code → tie.After-place-of
-Named c = c.before.before.before.before
-
--- from the contract as it stands to the fields that passed; from the opposite side to the contract
-abbrev Passed : tie.After-listed-at → tie.Else1
-Passed c = c.before.before.before.before
-
-abbrev Stands : tie.After-side-area → tie.After-listed-at
-Stands c = c.before.before.before.before
-
 -- 5 to 7, as the rules test them
-fields : (c : tie.After-fields-code) → let start = Begun c in
-    let listing = listing_of (exchange_of (memory start.args.state start.args.buys.now start.args.sells.now start.args.trades.now)) start.args.o in
-    c.fields-code.result ≡ first_of (fields_refusals (conditions_refused listing.contract start.args.o) listing.contract start.args.o)
+fields : (c : tie.After-fields_code-fields) → let listing = listing_of (exchange_of (memory c.args.state c.args.buys.now c.args.sells.now c.args.trades.now)) c.args.o in
+    c.fields_code-fields.result ≡ first_of (fields_refusals (conditions_refused listing.contract c.args.o) listing.contract c.args.o)
 fields c =
-    let start = Begun c in
-    fields_are start.pre.0 start.args.o start.pre.1 (Named c).place_of.ensures c.before.conditions-refused.ensures c.fields-code.ensures
+    fields_are c.requires.0 c.args.o c.requires.1 c.place_of-c.ensures c.conditions_refused-conditions.ensures c.fields_code-fields.ensures
 
-array-copy-out-terms : tie.Need-array-copy-out-terms
+array-copy-out-terms : tie.Need-bounds-contracts-c
 array-copy-out-terms c =
-    let named = c.before in
-    let start = named.before.before.before.before in
-    place_fits start.requires.0 start.args.o start.requires.1 named.place_of.ensures
+    place_fits c.requires.0 c.args.o c.requires.1 c.place_of-c.ensures
 
-fields-code-requires : tie.Need-fields-code-requires
+fields-code-requires : tie.Need-fields_code-fields-requires
 fields-code-requires c κs =
-    let named = c.before.before.before in
-    let start = named.before.before.before.before in
-    terms_in_range_lem start.requires.0 start.args.o start.requires.1 named.place_of.ensures
+    terms_in_range_lem c.requires.0 c.args.o c.requires.1 c.place_of-c.ensures
 
-side-count-requires : tie.Need-side-count-requires
+side-count-requires : tie.Need-side_count-own-requires
 side-count-requires c κs =
-    let start = Begun c.before in
-    place_fits start.pre.0 start.args.o start.pre.1 (Named c.before).place_of.ensures
+    place_fits c.requires.0 c.args.o c.requires.1 c.place_of-c.ensures
 
-side-count-requires-2 : tie.Need-side-count-requires-2
+side-count-requires-2 : tie.Need-side_count-count-requires
 side-count-requires-2 c κs =
-    let tested = c.before.before.before in
-    let start = Begun tested in
-    place_fits start.pre.0 start.args.o start.pre.1 (Named tested).place_of.ensures
+    place_fits c.requires.0 c.args.o c.requires.1 c.place_of-c.ensures
 
-listed-at-requires : tie.Need-listed-at-requires
+listed-at-requires : tie.Need-listed_at-listed-requires
 listed-at-requires c κs =
-    let tested = c.before.before.before.before in
-    let start = Begun tested in
-    place_fits start.pre.0 start.args.o start.pre.1 (Named tested).place_of.ensures
+    place_fits c.requires.0 c.args.o c.requires.1 c.place_of-c.ensures
 
-account-code-requires : tie.Need-account-code-requires
+account-code-requires : tie.Need-account_code-account-requires
 account-code-requires c κs =
-    let tested = (Passed c).before in
-    let start = Begun tested in
-    (start.pre.0, start.pre.1, lots_few start.pre.0 start.args.o (fields tested) (Passed c).if1.false, start.pre.2)
+    (c.requires.0, c.requires.1, lots_few c.requires.0 c.args.o (fields c.before.before.before.before.before) c.if-fields-ne0.false, c.requires.2)
 
-returns-2 : tie.Need-returns-2
+returns-2 : tie.Need-returns-then-account-ne0
 returns-2 c =
-    let passed = Passed c.before.before in
-    let start = Begun passed.before in
-    code_lots_or_money start.pre.0 start.args.o (fields passed.before) passed.if1.left c.before.account-code.ensures c.if2.true
+    code_lots_or_money c.requires.0 c.args.o (fields c.before.before.before.before.before.before.before) c.if-fields-ne0.false c.account_code-account.ensures c.if-account-ne0.true
 
-taker-of-requires : tie.Need-taker-of-requires
+taker-of-requires : tie.Need-taker_of-t-requires
 taker-of-requires c κs =
-    let stands = Stands c in
-    let tested = (Passed stands).before in
-    let start = Begun tested in (
-      start.pre.1.account_low,
-      start.pre.1.contract_low,
-      opposite_room start.pre.0 start.args.o start.pre.1 (Named tested).place_of.ensures c.side-area.ensures stands.before.side-count2.ensures,
+    (
+      c.requires.1.account_low,
+      c.requires.1.contract_low,
+      opposite_room c.requires.0 c.args.o c.requires.1 c.place_of-c.ensures c.side_area-area.ensures c.side_count-count.ensures,
     )
 
-book-code-requires : tie.Need-book-code-requires
+book-code-requires : tie.Need-book_code-requires
 book-code-requires c κs =
-    let side = c.before in
-    let stands = Stands side in
-    let tested = (Passed stands).before in
-    let start = Begun tested in
-    let place = (Named tested).place_of.ensures in
-    let taker = taker_here start.pre.0 start.args.o start.pre.1 place side.side-area.ensures stands.before.side-count2.ensures
-    stands.listed_at.ensures _ c.taker-of.ensures in (
-      facing start.pre.0 start.args.o start.pre.1 place side.side-area.ensures stands.before.side-count2.ensures _ taker,
-      rw stands.listed_at.ensures (recorded_high start.pre.0 start.args.o),
+    let place = c.place_of-c.ensures in
+    let taker = taker_here c.requires.0 c.args.o c.requires.1 place c.side_area-area.ensures c.side_count-count.ensures
+    c.listed_at-listed.ensures _ c.taker_of-t.ensures in (
+      facing c.requires.0 c.args.o c.requires.1 place c.side_area-area.ensures c.side_count-count.ensures _ taker,
+      rw c.listed_at-listed.ensures (recorded_high c.requires.0 c.args.o),
     )
 
-returns-3 : tie.Need-returns-3
+returns-3 : tie.Need-returns
 returns-3 c =
-    let side = c.before.before in
-    let stands = Stands side in
-    let passed = Passed stands in
-    let start = Begun passed.before in
-    let place = (Named passed.before).place_of.ensures in
-    let taker = taker_here start.pre.0 start.args.o start.pre.1 place side.side-area.ensures stands.before.side-count2.ensures
-    stands.listed_at.ensures _ c.before.taker-of.ensures in
-    code_book start.pre.0 start.args.o (fields passed.before) passed.if1.left side.before.before.before.account-code.ensures side.before.before.if2.false
-    (c.book-code.ensures _
-    (meets start.pre.0 start.args.o start.pre.1 place side.side-area.ensures stands.before.side-count2.ensures
-    stands.listed_at.ensures taker stands.before.before.before.side-count.ensures))
+    let place = c.place_of-c.ensures in
+    let taker = taker_here c.requires.0 c.args.o c.requires.1 place c.side_area-area.ensures c.side_count-count.ensures
+    c.listed_at-listed.ensures _ c.taker_of-t.ensures in
+    code_book c.requires.0 c.args.o (fields c.before.before.before.before.before.before.before.before.before.before.before) c.if-fields-ne0.false c.account_code-account.ensures c.if-account-ne0.false
+    (c.book_code.ensures _
+    (meets c.requires.0 c.args.o c.requires.1 place c.side_area-area.ensures c.side_count-count.ensures
+    c.listed_at-listed.ensures taker c.side_count-own.ensures))
 
-pub order-code-spec : {M : Type 1} → statement M
-order-code-spec =
+pub order_code_spec : {M : Type 1} → statement M
+order_code_spec =
     tie.close (tie.spec
-    (λ c κs. c.before.before.before.requires.1.contract_low)  -- place-of-requires
-    (λ c. search rules)  -- mul-terms
+    (λ c κs. c.requires.1.contract_low)  -- place_of-c-requires
+    (λ c. search rules)  -- offset_bounds-contracts-c
     array-copy-out-terms
-    (λ c κs. search rules)  -- conditions-refused-requires
+    (λ c κs. search rules)  -- conditions_refused-conditions-requires
     fields-code-requires
-    (λ c. let start = Begun c.before in code_fields start.pre.0 start.args.o (fields c.before) c.if1.true)  -- returns
+    (λ c. code_fields c.requires.0 c.args.o (fields c.before) c.if-fields-ne0.true)  -- returns-then-fields-ne0
     side-count-requires
     side-count-requires-2
     listed-at-requires
     account-code-requires
     returns-2
-    (λ c κs. search rules)  -- side-area-requires
+    (λ c κs. search rules)  -- side_area-area-requires
     taker-of-requires
     book-code-requires
     returns-3)

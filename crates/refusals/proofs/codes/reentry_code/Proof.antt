@@ -10,77 +10,55 @@ use Rattle.refusals.proofs.Reentering.{reentry_account, reentry_stamps, reentry_
 use Rattle.refusals.proofs.codes.reentry_code.Statement.{statement}
 use Rattle.refusals.proofs.codes.reentry_code.Tie as tie
 
--- ---- the way back, from call to call
-
-abbrev start : tie.After-place-of → tie.Start
-start c = c.before.before.before.before
-
-abbrev placed : tie.After-side-count → tie.After-place-of
-placed c = c.before.before.before.before
-
-abbrev past : tie.After-side-area → tie.Else1
-past c = c.before.before.before
-
-abbrev counted : tie.After-side-area → tie.After-side-count
-counted c = (past c).before.before
-
 -- ---- what is known of the opposite queue
 
 -- room for it
-room : (c : tie.After-side-area) → let begun = start (placed (counted c)) in QueueRoom c.side-area.result.now (begun.args.o.contract - 1) (counted c).side-count.result
+room : (c : tie.After-side_area-area) → QueueRoom c.side_area-area.result.now (c.args.o.contract - 1) c.side_count-count.result
 room c =
-    let begun = start (placed (counted c)) in
-    opposite_room begun.pre.0 begun.args.o begun.pre.1 (placed (counted c)).place_of.ensures c.side-area.ensures (counted c).side-count.ensures
+    opposite_room c.requires.0 c.args.o c.requires.1 c.place_of-c.ensures c.side_area-area.ensures c.side_count-count.ensures
 
 -- 12, as the rules test it
-trades : (c : tie.After-trades-refused) → let begun = start (placed (counted c.before.before)) in
-    c.trades-refused.result
-    ≡ trades_refused (exchange_of (memory begun.args.state begun.args.buys.now begun.args.sells.now begun.args.trades.now)) begun.args.number begun.args.o
+trades : (c : tie.After-trades_refused) → c.trades_refused.result
+    ≡ trades_refused (exchange_of (memory c.args.state c.args.buys.now c.args.sells.now c.args.trades.now)) c.args.number c.args.o
 trades c =
-    let faced = c.before.before in
-    let begun = start (placed (counted faced)) in
-    trades_are begun.pre.0 begun.args.o begun.pre.1 (placed (counted faced)).place_of.ensures faced.side-area.ensures (counted faced).side-count.ensures _
-    c.before.taker-of.ensures c.trades-refused.ensures
+    trades_are c.requires.0 c.args.o c.requires.1 c.place_of-c.ensures c.side_area-area.ensures c.side_count-count.ensures _
+    c.taker_of-t.ensures c.trades_refused.ensures
 
 -- ---- the needs
 
-side-count-requires : tie.Need-side-count-requires
+side-count-requires : tie.Need-side_count-count-requires
 side-count-requires c κs =
-    let place = c.before.before.before in
-    place_fits (start place).requires.0 (start place).args.o (start place).requires.1 place.place_of.ensures
+    place_fits c.requires.0 c.args.o c.requires.1 c.place_of-c.ensures
 
-returns-2 : tie.Need-returns-2
+returns-2 : tie.Need-returns-then-nextstamp-ge-NUMBERS_END
 unfolding exchange_of
-returns-2 c = reentry_stamps _ _ _ c.before.before.account-code.ensures c.before.if1.false c.if2.true
+returns-2 c = reentry_stamps _ _ _ c.account_code-account.ensures c.if-account-ne0.false c.if-nextstamp-ge-NUMBERS_END.true
 
-trades-refused-requires : tie.Need-trades-refused-requires
+trades-refused-requires : tie.Need-trades_refused-requires
 trades-refused-requires c κs =
-    let place = placed (counted c.before) in
-    (rw place.place_of.ensures (room c.before), recorded_high (start place).pre.0 (start place).args.o)
+    (rw c.place_of-c.ensures (room c.before), recorded_high c.requires.0 c.args.o)
 
-returns-3 : tie.Need-returns-3
+returns-3 : tie.Need-returns-then-trades_refused
 unfolding exchange_of
 returns-3 c =
-    let faced = c.before.before.before in
-    reentry_trades _ _ _ (past faced).before.account-code.ensures (past faced).if1.false faced.before.before.if2.false (trades c.before) c.if3.true
+    reentry_trades _ _ _ c.account_code-account.ensures c.if-account-ne0.false c.if-nextstamp-ge-NUMBERS_END.false (trades c.before) c.if-trades_refused.true
 
-returns-4 : tie.Need-returns-4
+returns-4 : tie.Need-returns
 unfolding exchange_of
 returns-4 c =
-    let faced = c.before.before.before in
-    reentry_clear _ _ _ (past faced).before.account-code.ensures (past faced).if1.false faced.before.before.if2.false (trades c.before) c.if3.false
+    reentry_clear _ _ _ c.account_code-account.ensures c.if-account-ne0.false c.if-nextstamp-ge-NUMBERS_END.false (trades c.before) c.if-trades_refused.false
 
-pub reentry-code-spec : {M : Type 1} → statement M
-reentry-code-spec = tie.close (tie.spec
+pub reentry_code_spec : {M : Type 1} → statement M
+reentry_code_spec = tie.close (tie.spec
     (λ c κs. search rules)
     (λ c. search rules)
-    (λ c. let begun = start c.before in place_fits begun.pre.0 begun.args.o begun.pre.1 c.before.place_of.ensures)  -- array-copy-out-terms
+    (λ c. place_fits c.requires.0 c.args.o c.requires.1 c.place_of-c.ensures)  -- bounds-contracts-c
     side-count-requires
     (λ c κs. search rules)
-    (λ c. reentry_account _ _ _ c.before.account-code.ensures c.if1.true)
+    (λ c. reentry_account _ _ _ c.account_code-account.ensures c.if-account-ne0.true)
     returns-2
     (λ c κs. search rules)
-    (λ c κs. let begun = start (placed (counted c)) in (begun.pre.1.account_low, begun.pre.1.contract_low, room c))  -- taker-of-requires
+    (λ c κs. (c.requires.1.account_low, c.requires.1.contract_low, room c))  -- taker_of-t-requires
     trades-refused-requires
     returns-3
     returns-4)

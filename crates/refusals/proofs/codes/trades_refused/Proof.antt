@@ -7,19 +7,14 @@ use Rattle.refusals.proofs.Arrivals.{few_trades, trades_fit, trades_none, trades
 use Rattle.refusals.proofs.codes.trades_refused.Statement.{statement}
 use Rattle.refusals.proofs.codes.trades_refused.Tie as tie
 
--- back to the start
-abbrev Begun : tie.After-count-trades → tie.Start
-Begun c = c.before.before.before.before.before
-
-add-result : tie.Need-overflow-add-result
+add-result : tie.Need-overflow_add-result
 add-result c =
-    let start = Begun c in
-    omega (arith, c.count-trades.ensures, few_trades start.args.terms start.args.t start.args.lots start.pre.0, start.pre.1)
+    omega (arith, c.count_trades.ensures, few_trades c.args.terms c.args.t c.args.lots c.requires.0, c.requires.1)
 
-pub trades-refused-spec : {M : Type 1} → statement M
-trades-refused-spec = tie.close (tie.spec
-    (λ c. trades_none _ _ _ c.before.before.before.requires.0 _ c.before.before.before.requires.1 (eq-eqb _ _ c.if1.true))  -- returns
-    (λ c. trades_fit _ _ _ c.before.before.before.before.requires.0 (ne_eqb _ _ c.before.if1.false) _ c.if2.true)  -- returns-2
-    (λ c κs. search rules)  -- count-trades-requires
+pub trades_refused_spec : {M : Type 1} → statement M
+trades_refused_spec = tie.close (tie.spec
+    (λ c. trades_none _ _ _ c.requires.0 _ c.requires.1 (eq-eqb _ _ c.if-terms-eq-AUCTION.true))  -- returns-then-terms-eq-AUCTION
+    (λ c. trades_fit _ _ _ c.requires.0 (ne_eqb _ _ c.if-terms-eq-AUCTION.false) _ c.if-recorded-le-TRADES_WITH_ROOM.true)  -- returns-then-recorded-le-TRADES_WITH_ROOM
+    (λ c κs. search rules)  -- count_trades-requires
     add-result
-    (λ c. trades_told _ _ _ (Begun c).requires.0 (ne_eqb _ _ c.before.before.if1.false) _ c.count-trades.ensures))  -- returns-3
+    (λ c. trades_told _ _ _ c.requires.0 (ne_eqb _ _ c.if-terms-eq-AUCTION.false) _ c.count_trades.ensures))  -- returns-3

@@ -3,7 +3,7 @@ use borrow.Author.Tests.{le-leb, lt-leb}
 use Rattle.refusals.proofs.codes.used_up.Statement.{statement}
 use Rattle.refusals.proofs.codes.used_up.Tie as tie
 
-pub used-up-spec : {M : Type 1} → statement M
-used-up-spec = tie.close (tie.spec
-    (λ c. rw (le-leb _ _ c.if1.true))  -- returns
-    (λ c. rw (lt-leb _ _ c.if1.false)))  -- returns-2
+pub used_up_spec : {M : Type 1} → statement M
+used_up_spec = tie.close (tie.spec
+    (λ c. rw (le-leb _ _ c.if-next-ge-NUMBERS_END.true))  -- returns-then-next-ge-NUMBERS_END
+    (λ c. rw (lt-leb _ _ c.if-next-ge-NUMBERS_END.false)))  -- returns-2

@@ -5,8 +5,8 @@ use Rattle.refusals.proofs.Arrivals.{best_none, best_first}
 use Rattle.refusals.proofs.orders.best_price.Statement.{statement}
 use Rattle.refusals.proofs.orders.best_price.Tie as tie
 
-pub best-price-spec : {M : Type 1} → statement M
-best-price-spec = tie.close (tie.spec
-    (λ c. sym (best_none _ _ _ c.if1.true))  -- returns
-    (λ c κs. search rules)  -- order-at-requires
-    (λ c. best_first _ _ _ c.before.if1.false c.order_at_lem.ensures))  -- returns-2
+pub best_price_spec : {M : Type 1} → statement M
+best_price_spec = tie.close (tie.spec
+    (λ c. sym (best_none _ _ _ c.if-count-eq0.true))  -- returns-then-count-eq0
+    (λ c κs. search rules)  -- order_at-o-requires
+    (λ c. best_first _ _ _ c.if-count-eq0.false c.order_at-o.ensures))  -- returns-2

@@ -4,17 +4,17 @@ use Rattle.rules.specs.Matching.{method_of}
 use Rattle.refusals.proofs.orders.method_of.Statement.{statement}
 use Rattle.refusals.proofs.orders.method_of.Tie as tie
 
-returns : tie.Need-returns
+returns : tie.Need-returns-then-terms-eq0
 unfolding method_of
-returns c = rw c.if1.true
+returns c = rw c.if-terms-eq0.true
 
-returns-2 : tie.Need-returns-2
+returns-2 : tie.Need-returns-then-terms-eq1
 unfolding method_of
-returns-2 c = rw c.if2.true
+returns-2 c = rw c.if-terms-eq1.true
 
-returns-3 : tie.Need-returns-3
+returns-3 : tie.Need-returns
 unfolding method_of
-returns-3 c = rw (ne_eqb _ _ c.before.before.if1.false, ne_eqb _ _ c.if2.false)
+returns-3 c = rw (ne_eqb _ _ c.if-terms-eq0.false, ne_eqb _ _ c.if-terms-eq1.false)
 
-pub method-of-spec : {M : Type 1} → statement M
-method-of-spec = tie.close (tie.spec returns returns-2 returns-3)
+pub method_of_spec : {M : Type 1} → statement M
+method_of_spec = tie.close (tie.spec returns returns-2 returns-3)

@@ -3,27 +3,23 @@ use borrow.Author.Rules.{rules}
 use Rattle.refusals.proofs.orders.taker_of.Statement.{statement}
 use Rattle.refusals.proofs.orders.taker_of.Tie as tie
 
--- back to the call of `place_of`
-abbrev Place-of : tie.After-mark → tie.After-place-of
-Place-of c = c.before.before.before.before.before
-
 returns : tie.Need-returns
 returns c =
     rw (
       c.mark.ensures,
-      c.before.place-word2.ensures,
-      c.before.before.place-word.ensures,
-      c.before.before.before.method-of.ensures,
-      c.before.before.before.before.best_price_lem.ensures,
-      (Place-of c).place_of.ensures,
+      c.place_word-2.ensures,
+      c.place_word.ensures,
+      c.method_of-method.ensures,
+      c.best_price-best.ensures,
+      c.place_of-c.ensures,
     )
 
-pub taker-of-spec : {M : Type 1} → statement M
-taker-of-spec = tie.close (tie.spec
-    (λ c κs. search rules)  -- place-of-requires
-    (λ c κs. search rules)  -- best-price-requires
-    (λ c κs. search rules)  -- method-of-requires
-    (λ c κs. search rules)  -- place-word-requires
-    (λ c κs. search rules)  -- place-word-requires-2
+pub taker_of_spec : {M : Type 1} → statement M
+taker_of_spec = tie.close (tie.spec
+    (λ c κs. search rules)  -- place_of-c-requires
+    (λ c κs. search rules)  -- best_price-best-requires
+    (λ c κs. search rules)  -- method_of-method-requires
+    (λ c κs. search rules)  -- place_word-requires
+    (λ c κs. search rules)  -- place_word-requires-2
     (λ c κs. search rules)  -- mark-requires
     returns)
