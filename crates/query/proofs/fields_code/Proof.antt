@@ -3,8 +3,8 @@ use borrow.Author.Rules.{rules}
 use Rattle.query.proofs.fields_code.Statement.{statement}
 use Rattle.query.proofs.fields_code.Tie as tie
 
-pub fields-code-spec : {M : Type 1} → statement M
-fields-code-spec = tie.close (tie.spec
-    (λ c κs. search rules)  -- is-day-without-limit-requires
-    (λ c κs. search rules)  -- fields-code-requires
-    (λ c. rw c.before.is-day-without-limit.ensures at c.fields-code.ensures))  -- returns
+pub fields_code_spec : {M : Type 1} → statement M
+fields_code_spec = tie.close (tie.spec
+    (λ c κs. search rules)  -- is_day_without_limit-conditions-requires
+    (λ c κs. search rules)  -- fields_code-requires
+    (λ c. rw c.is_day_without_limit-conditions.ensures at c.fields_code.ensures))  -- returns

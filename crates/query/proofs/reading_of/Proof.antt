@@ -8,84 +8,61 @@ use Rattle.query.proofs.Asking.{answered, facing, here, refused_absent, refused_
 use Rattle.query.proofs.reading_of.Statement.{statement}
 use Rattle.query.proofs.reading_of.Tie as tie
 
--- back to the start
-abbrev Begun : tie.After-absent-code → tie.Start
-Begun c = c.before.before.before.before
-
--- back to the call of `place_of`
-abbrev Place-of : tie.After-fields-code → tie.After-place-of
-Place-of c = c.before.before.before
-
--- back to the test `fields != 0`
-abbrev Past-fields : tie.After-struct-known2 → tie.Else2
-Past-fields c = c.before.before.before
-
 -- the order's account and contract are in use
-both : (c : tie.Else1) → Present (Begun c.before).args.state (Begun c.before).args.o
-both c = let start = Begun c.before in here start.pre start.args.o c.before.absent-code.ensures c.if1.false
+both : (c : tie.Else-absent-ne0) → Present c.args.state c.args.o
+both c = here c.requires c.args.o c.absent_code-absent.ensures c.if-absent-ne0.false
 
-returns : tie.Need-returns
-returns c = let start = Begun c.before.before in c.refused.ensures ∙ refused_absent start.pre start.args.o c.before.before.absent-code.ensures c.before.if1.true
+returns : tie.Need-returns-then-absent-ne0
+returns c = c.refused.ensures ∙ refused_absent c.requires c.args.o c.absent_code-absent.ensures c.if-absent-ne0.true
 
-array-copy-out-terms : tie.Need-array-copy-out-terms
-array-copy-out-terms c = let start = Begun c.before.before.before in place_fits start.pre start.args.o (both c.before.before) c.before.place_of.ensures
+array-copy-out-terms : tie.Need-bounds-contracts-c
+array-copy-out-terms c = place_fits c.requires c.args.o (both c.before.before) c.place_of-c.ensures
 
-fields-code-requires : tie.Need-fields-code-requires
+fields-code-requires : tie.Need-fields_code-fields-requires
 fields-code-requires c κs =
-    let start = Begun c.before.before.before.before in terms_in_range_lem start.pre start.args.o (both c.before.before.before) c.before.before.place_of.ensures
+    terms_in_range_lem c.requires c.args.o (both c.before.before.before) c.place_of-c.ensures
 
-returns-2 : tie.Need-returns-2
+returns-2 : tie.Need-returns-then-fields-ne0
 returns-2 c =
-    let after = Place-of c.before.before in
-    let start = Begun after.before.before in
-    c.refused2.ensures ∙ refused_fields start.pre start.args.o after.before.before.absent-code.ensures after.before.if1.left
-    after.place_of.ensures c.before.before.fields-code.ensures c.before.if2.true
+    c.refused-then-fields-ne0.ensures ∙ refused_fields c.requires c.args.o c.absent_code-absent.ensures c.if-absent-ne0.false
+    c.place_of-c.ensures c.fields_code-fields.ensures c.if-fields-ne0.true
 
-side-count-requires : tie.Need-side-count-requires
+side-count-requires : tie.Need-side_count-count-requires
 side-count-requires c κs =
-    let after = Place-of (Past-fields c).before in
-    let start = Begun after.before.before in
-    place_fits start.pre start.args.o (both after.before) after.place_of.ensures
+    place_fits c.requires c.args.o (both c.before.before.before.before.before.before.before.before) c.place_of-c.ensures
 
-taker-of-requires : tie.Need-taker-of-requires
+taker-of-requires : tie.Need-taker_of-t-requires
 taker-of-requires c κs =
-    let after = Place-of (Past-fields c.before).before in
-    let start = Begun after.before.before in
-    let p = both after.before in (
+    let p = both c.before.before.before.before.before.before.before.before.before in (
       p.account_low,
       p.contract_low,
-      room start.pre start.args.o after.before.before.absent-code.ensures after.before.if1.left
-          after.place_of.ensures (Past-fields c.before).before.fields-code.ensures c.before.before.side-area.ensures c.side-count.ensures,
+      room c.requires c.args.o c.absent_code-absent.ensures c.if-absent-ne0.false
+          c.place_of-c.ensures c.fields_code-fields.ensures c.side_area-area.ensures c.side_count-count.ensures,
     )
 
-gather-requires : tie.Need-gather-requires
+gather-requires : tie.Need-gather-g-requires
 gather-requires c κs =
-    let after = Place-of (Past-fields c.before.before).before in
-    let start = Begun after.before.before in
-    facing start.pre start.args.o after.before.before.absent-code.ensures after.before.if1.left after.place_of.ensures
-    (Past-fields c.before.before).before.fields-code.ensures c.before.before.before.side-area.ensures c.before.side-count.ensures c.taker-of.ensures
+    facing c.requires c.args.o c.absent_code-absent.ensures c.if-absent-ne0.false c.place_of-c.ensures
+    c.fields_code-fields.ensures c.side_area-area.ensures c.side_count-count.ensures c.taker_of-t.ensures
 
-returns-3 : tie.Need-returns-3
+returns-3 : tie.Need-returns
 returns-3 c =
-    let past-fields = Past-fields c.before.before.before in
-    let after = Place-of past-fields.before in
-    let start = Begun after.before.before in
-    answered start.pre start.args.o after.before.before.absent-code.ensures after.before.if1.left after.place_of.ensures
-    past-fields.before.fields-code.ensures c.before.before.before.before.side-area.ensures c.before.before.side-count.ensures
-    c.before.taker-of.ensures past-fields.if2.left c.gather.ensures
+    answered c.requires c.args.o c.absent_code-absent.ensures c.if-absent-ne0.false c.place_of-c.ensures
+    c.fields_code-fields.ensures c.side_area-area.ensures c.side_count-count.ensures
+    c.taker_of-t.ensures c.if-fields-ne0.false c.gather-g.ensures
 
-pub reading-of-spec : {M : Type 1} → statement M
-reading-of-spec = tie.close (tie.spec
-    (λ c κs. (formed c.before.before.before.requires).accounts_high)  -- absent-code-requires
+pub reading_of_spec : {M : Type 1} → statement M
+reading_of_spec = tie.close (tie.spec
+    (λ c κs. (formed c.requires).accounts_high)  -- absent_code-absent-requires
     (λ c κs. search rules)  -- refused-requires
     returns
-    (λ c κs. (both c).contract_low)  -- place-of-requires
-    (λ c. search rules)  -- mul-terms
+    (λ c κs. (both c).contract_low)  -- place_of-c-requires
+    (λ c. search rules)  -- offset_bounds-contracts-c
     array-copy-out-terms
     fields-code-requires
-    (λ c κs. search rules)  -- refused-requires-2
+    (λ c κs. search rules)  -- refused-requires-then-fields-ne0
     returns-2
-    (λ c κs. search rules)  -- side-area-requires
+    (λ c κs. search rules)  -- side_area-area-requires
     side-count-requires
     taker-of-requires
     gather-requires

@@ -5,12 +5,12 @@ use Rattle.clients.proofs.posting.client_trade.Statement.{statement}
 use Rattle.clients.proofs.posting.client_trade.Tie as tie
 
 returns : tie.Need-returns
-returns c = as_clients _ _ _ _ _ _ _ _ c.before.before.before.leg-place.ensures c.before.before.leg-place2.ensures c.before.leg-mark.ensures c.leg-mark2.ensures
+returns c = as_clients _ _ _ _ _ _ _ _ c.leg_place-buyer.ensures c.leg_place-seller.ensures c.leg_mark-buyclose.ensures c.leg_mark-sellclose.ensures
 
-pub client-trade-spec : {M : Type 1} → statement M
-client-trade-spec = tie.close (tie.spec
-    (λ c κs. search rules)  -- leg-place-requires
-    (λ c κs. search rules)  -- leg-place-requires-2
-    (λ c κs. search rules)  -- leg-mark-requires
-    (λ c κs. search rules)  -- leg-mark-requires-2
+pub client_trade_spec : {M : Type 1} → statement M
+client_trade_spec = tie.close (tie.spec
+    (λ c κs. search rules)  -- leg_place-buyer-requires
+    (λ c κs. search rules)  -- leg_place-seller-requires
+    (λ c κs. search rules)  -- leg_mark-buyclose-requires
+    (λ c κs. search rules)  -- leg_mark-sellclose-requires
     returns)

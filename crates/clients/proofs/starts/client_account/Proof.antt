@@ -6,12 +6,12 @@ use Rattle.clients.proofs.starts.client_account.Tie as tie
 
 returns : tie.Need-returns
 returns c =
-    four_holdings _ _ _ _ _ _ _ c.before.before.before.start_holding_lem.ensures c.before.before.start-holding2.ensures c.before.start-holding3.ensures c.start-holding4.ensures
+    four_holdings _ _ _ _ _ _ _ c.start_holding-first.ensures c.start_holding-second.ensures c.start_holding-third.ensures c.start_holding-fourth.ensures
 
-pub client-account-spec : {M : Type 1} → statement M
-client-account-spec = tie.close (tie.spec
-    (λ c κs. search rules)  -- start-holding-requires
-    (λ c κs. search rules)  -- start-holding-requires-2
-    (λ c κs. search rules)  -- start-holding-requires-3
-    (λ c κs. search rules)  -- start-holding-requires-4
+pub client_account_spec : {M : Type 1} → statement M
+client_account_spec = tie.close (tie.spec
+    (λ c κs. search rules)  -- start_holding-first-requires
+    (λ c κs. search rules)  -- start_holding-second-requires
+    (λ c κs. search rules)  -- start_holding-third-requires
+    (λ c κs. search rules)  -- start_holding-fourth-requires
     returns)

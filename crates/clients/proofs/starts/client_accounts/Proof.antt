@@ -10,25 +10,25 @@ use Rattle.clients.proofs.StartLots.{all_written}
 use Rattle.clients.proofs.starts.client_accounts.Statement.{statement}
 use Rattle.clients.proofs.starts.client_accounts.Tie as tie
 
-abbrev invariant-loop : tie.invariant-loop
+abbrev invariant-loop : tie.invariant-loop-k
 invariant-loop starts clients accounts₀ k₀ accounts k = Writing (client_account (clients_with clients starts)) accounts₀ max_accounts k accounts
 
-abbrev decreases-loop : tie.decreases-loop
+abbrev decreases-loop : tie.decreases-loop-k
 decreases-loop starts clients accounts₀ k₀ accounts k = max_accounts - k
 
 returns : tie.Need-returns invariant-loop decreases-loop
-returns c = all_written _ _ _ max_accounts _ (length-replicate max_accounts c.before.before.client-account.result) c.loop-test.false c.before.loop.invariant
+returns c = all_written _ _ _ max_accounts _ (length-replicate max_accounts c.client_account-none.result) c.loop-k-test.false c.loop-k.invariant
 
-pub client-accounts-spec : {M : Type 1} → statement M
-client-accounts-spec = tie.close (tie.spec
+pub client_accounts_spec : {M : Type 1} → statement M
+client_accounts_spec = tie.close (tie.spec
     invariant-loop
     decreases-loop
-    (λ c κs. omega arith)  -- client-account-requires
+    (λ c κs. omega arith)  -- client_account-none-requires
     (λ c. writing_none _ _ _)  -- loop-holds
-    (λ c κs. omega arith)  -- client-account-requires-2
-    (λ c. omega arith)  -- mul-accounts
-    (λ c. omega arith)  -- array-set-from-accounts
-    (λ c. omega arith)  -- add-k
+    (λ c κs. omega arith)  -- client_account-requires
+    (λ c. omega arith)  -- offset_bounds-accounts-k
+    (λ c. omega arith)  -- bounds-accounts-k
+    (λ c. omega arith)  -- overflow_add-k
     (λ c. omega arith)  -- loop-less
-    (λ c. writing_more _ _ _ (omega arith) _ _ _ c.before.loop-test.true c.client-account2.ensures c.before.before.loop.invariant)  -- loop-again
+    (λ c. writing_more _ _ _ (omega arith) _ _ _ c.loop-k-test.true c.client_account.ensures c.loop-k.invariant)  -- loop-again
     returns)

@@ -12,64 +12,51 @@ use borrow.Author.Rules.{rules}
 use Rattle.mending.proofs.mend.mend.Statement.{statement}
 use Rattle.mending.proofs.mend.mend.Tie as tie
 
--- back to the start
-abbrev Begun : tie.Else1 → tie.Start
-Begun c = c.before.before.before.before.before
+sound : (c : tie.Else-not-head_sound) → head_sound c.args.file.now ≡ true
+sound c = sym c.head_sound.ensures ∙ c.if-not-head_sound.false
 
--- back to the test `if3`
-abbrev Past-if3 : tie.After-put-list-arg → tie.Else3
-Past-if3 c = c.before.before.before.before.before
+within : (c : tie.After-head_end-first) → c.head_end-first.result ≤ length c.args.file.now
+within c = omega (arith, c.head_end-first.ensures, place_within _ (sound c.before))
 
--- back to the call of `put-file`
-abbrev Put-file : tie.After-put-list → tie.After-put-file
-Put-file c = c.before.before.before.before
+found : (c : tie.After-count_kept-kept)
+    → let file = c.args.file.now in
+    Found file c.head_end-first.result (whole_records file c.head_end-first.result) c.count_kept-kept.result
+found c = record { sound = sound c.before.before; place = c.head_end-first.ensures; records = refl; keeps = c.count_kept-kept.ensures }
 
-sound : (c : tie.Else1) → head_sound (Begun c).args.file.now ≡ true
-sound c = sym c.before.head-sound.ensures ∙ not-false _ c.if1.false
+returns-3 : tie.Need-returns-then-list-listed
+returns-3 c = list_short (found c.before.before.before) c.count_dropped-dropped.ensures _ _ (omega (arith, c.if-out-length.false)) c.if-list-listed.true
 
-within : (c : tie.After-head-end) → c.head-end.result ≤ length (Begun c.before).args.file.now
-within c = omega (arith, c.head-end.ensures, place_within _ (sound c.before))
-
-found : (c : tie.After-count-kept)
-    → let file = (Begun c.before.before).args.file.now in
-    Found file c.before.head-end.result (whole_records file c.before.head-end.result) c.count_kept.result
-found c = record { sound = sound c.before.before; place = c.before.head-end.ensures; records = refl; keeps = c.count_kept.ensures }
-
-returns-3 : tie.Need-returns-3
-returns-3 c = list_short (found c.before.before.before) c.before.before.count-dropped.ensures _ _ (omega (arith, c.before.if2.false)) c.if3.true
-
-put-file-requires : tie.Need-put-file-requires
+put-file-requires : tie.Need-put_file-requires
 put-file-requires c κs =
     let f = found c.before.before.before.before in
-    ((f.sound, f.place), ((refl, f.keeps), mended_fits f (omega (arith, c.before.before.if2.false))))
+    ((f.sound, f.place), ((refl, f.keeps), mended_fits f (omega (arith, c.if-out-length.false))))
 
-put-list-requires : tie.Need-put-list-requires
+put-list-requires : tie.Need-put_list-requires
 put-list-requires c κs =
-    let l = listed (found (Past-if3 c).before.before.before) (Past-if3 c).before.before.count-dropped.ensures in
-    ((l.within, refl, l.drops), list_fits l (omega (arith, (Past-if3 c).if3.false)))
+    let l = listed (found c.before.before.before.before.before.before.before.before) c.count_dropped-dropped.ensures in
+    ((l.within, refl, l.drops), list_fits l (omega (arith, c.if-list-listed.false)))
 
-returns-4 : tie.Need-returns-4
+returns-4 : tie.Need-returns
 returns-4 c =
-    let fits = Past-if3 c.before.before.before in
-    mended (found fits.before.before.before) fits.before.before.count-dropped.ensures _ _ (omega (arith, fits.before.if2.left)) (omega (arith, fits.if3.left))
-    (Put-file c.before.before).put-file.ensures c.before.before.put-list.ensures
+    mended (found c.before.before.before.before.before.before.before.before.before.before.before) c.count_dropped-dropped.ensures _ _ (omega (arith, c.if-out-length.false)) (omega (arith, c.if-list-listed.false))
+    c.put_file.ensures c.put_list.ensures
 
-pub mend-spec : {M : Type 1} → statement M
-mend-spec = tie.close (tie.spec
-    (λ c κs. search rules)  -- head-sound-requires
-    (λ c. head_broken _ _ _ (sym c.before.head-sound.ensures ∙ not-true _ c.if1.true))  -- returns
-    (λ c κs. sound c)  -- head-end-requires
-    (λ c. within c)  -- sub-n
-    (λ c κs. whole_within (Begun c.before).args.file.now _ (within c))  -- count-kept-requires
-    (λ c κs. (within c.before, refl, c.count_kept.ensures))  -- count-dropped-requires
-    (λ c. omega (arith, mended_most (found c.before)))  -- mul-length
-    (λ c. omega (arith, mended_most (found c.before)))  -- add-length
-    (λ c. omega (arith, listed_most (listed (found c.before) c.count-dropped.ensures)))  -- mul-listed
-    (λ c. omega (arith, listed_most (listed (found c.before) c.count-dropped.ensures)))  -- add-listed
-    (λ c. out_short (found c.before.before) c.before.count-dropped.ensures _ _ c.if2.true)  -- returns-2
+pub mend_spec : {M : Type 1} → statement M
+mend_spec = tie.close (tie.spec
+    (λ c κs. search rules)  -- head_sound-requires
+    (λ c. head_broken _ _ _ (sym c.head_sound.ensures ∙ c.if-not-head_sound.true))  -- returns-then-not-head_sound
+    (λ c κs. sound c)  -- head_end-first-requires
+    (λ c. within c)  -- overflow_sub-n
+    (λ c κs. whole_within c.args.file.now _ (within c))  -- count_kept-kept-requires
+    (λ c κs. (within c.before, refl, c.count_kept-kept.ensures))  -- count_dropped-dropped-requires
+    (λ c. omega (arith, mended_most (found c.before)))  -- overflow_mul-length
+    (λ c. omega (arith, mended_most (found c.before)))  -- overflow_add-length
+    (λ c. omega (arith, listed_most (listed (found c.before) c.count_dropped-dropped.ensures)))  -- overflow_mul-listed
+    (λ c. omega (arith, listed_most (listed (found c.before) c.count_dropped-dropped.ensures)))  -- overflow_add-listed
+    (λ c. out_short (found c.before.before) c.count_dropped-dropped.ensures _ _ c.if-out-length.true)  -- returns-then-out-length
     returns-3
     put-file-requires
     put-list-requires
-    (λ c. search rules)  -- same-length
-    (λ c. search rules)  -- same-length-2
+    (λ c. search rules)  -- shape_of-out
+    (λ c. search rules)  -- shape_of-list
     returns-4)

@@ -7,27 +7,23 @@ use Rattle.mending.proofs.Records.{kept_none, kept_most, count_keeps, count_drop
 use Rattle.mending.proofs.verdict.count_kept.Statement.{statement}
 use Rattle.mending.proofs.verdict.count_kept.Tie as tie
 
-abbrev invariant-loop : tie.invariant-loop
+abbrev invariant-loop : tie.invariant-loop-k
 invariant-loop file first n kept₀ k₀ kept k = (k ≤ n) × (kept ≡ Mend·kept file first k)
 
-abbrev decreases-loop : tie.decreases-loop
+abbrev decreases-loop : tie.decreases-loop-k
 decreases-loop file first n kept₀ k₀ kept k = n - k
 
--- back to the start
-abbrev Begun : tie.Else1 invariant-loop decreases-loop → tie.Start invariant-loop decreases-loop
-Begun c = c.before.before.before.before.before
-
-pub count-kept-spec : {M : Type 1} → statement M
-count-kept-spec = tie.close (tie.spec
+pub count_kept_spec : {M : Type 1} → statement M
+count_kept_spec = tie.close (tie.spec
     invariant-loop
     decreases-loop
     (λ c. (omega arith, kept_none _ _))  -- loop-holds
-    (λ c κs. omega (arith, c.before.before.before.requires))  -- reason-requires
-    (λ c. omega arith)  -- add-k
+    (λ c κs. omega (arith, c.requires))  -- reason-why-requires
+    (λ c. omega arith)  -- overflow_add-k
     (λ c. omega arith)  -- loop-less
-    (λ c. (omega arith, count_drops _ _ _ _ _ c.before.before.before.loop.invariant.1 c.before.reason.ensures c.if1.true))  -- loop-again
-    (λ c. omega (arith, kept_most (Begun c).args.file.now (Begun c).args.first c.before.before.before.loop.k))  -- add-kept
-    (λ c. omega arith)  -- add-k-2
+    (λ c. (omega arith, count_drops _ _ _ _ _ c.loop-k.invariant.1 c.reason-why.ensures c.if-why-ne0.true))  -- loop-again
+    (λ c. omega (arith, kept_most c.args.file.now c.args.first c.loop-k.k))  -- overflow_add-kept
+    (λ c. omega arith)  -- overflow_add-k-in-loop-k
     (λ c. omega arith)  -- loop-less-2
-    (λ c. (omega arith, count_keeps _ _ _ _ _ c.before.before.before.loop.invariant.1 c.before.reason.ensures c.if1.false))  -- loop-again-2
-    (λ c. let e : c.before.loop.k ≡ c.before.before.before.args.n = omega arith in rw (← e) c.before.loop.invariant.1))  -- returns
+    (λ c. (omega arith, count_keeps _ _ _ _ _ c.loop-k.invariant.1 c.reason-why.ensures c.if-why-ne0.false))  -- loop-again-2
+    (λ c. let e : c.loop-k.k ≡ c.args.n = omega arith in rw (← e) c.loop-k.invariant.1))  -- returns

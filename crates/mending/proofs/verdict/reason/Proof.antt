@@ -4,13 +4,13 @@ use borrow.Author.Rules.{rules}
 use Rattle.mending.proofs.verdict.reason.Statement.{statement}
 use Rattle.mending.proofs.verdict.reason.Tie as tie
 
-pub reason-spec : {M : Type 1} → statement M
-reason-spec = tie.close (tie.spec
-    (λ c. search rules)  -- mul-record-at
-    (λ c. search rules)  -- add-record-at
-    (λ c κs. search rules)  -- record-at-requires
-    (λ c κs. search rules)  -- command-of-requires
-    (λ c κs. search rules)  -- is-malformed-requires
-    (λ c. search malformed)  -- returns
-    (λ c. search surplus)  -- returns-2
+pub reason_spec : {M : Type 1} → statement M
+reason_spec = tie.close (tie.spec
+    (λ c. search rules)  -- overflow_mul-k
+    (λ c. search rules)  -- overflow_add-first
+    (λ c κs. search rules)  -- record_at-requires
+    (λ c κs. search rules)  -- command_of-command-requires
+    (λ c κs. search rules)  -- is_malformed-requires
+    (λ c. search malformed)  -- returns-then-is_malformed
+    (λ c. search surplus)  -- returns-then-n-ge-MAX_COMMANDS
     (λ c. search no_reason))  -- returns-3
