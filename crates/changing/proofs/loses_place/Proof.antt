@@ -4,9 +4,9 @@ use borrow.Author.Tests.{le-ltb, lt-ltb}
 use Rattle.changing.proofs.loses_place.Statement.{statement}
 use Rattle.changing.proofs.loses_place.Tie as tie
 
-pub loses-place-spec : {M : Type 1} → statement M
-loses-place-spec =
+pub loses_place_spec : {M : Type 1} → statement M
+loses_place_spec =
     tie.close
     (tie.spec
-    (λ c. rw (lt-ltb _ _ c.if1.true))  -- returns
-    (λ c. rw (le-ltb _ _ c.before.if1.false) refl))  -- returns-2
+    (λ c. rw (lt-ltb _ _ c.if-order-lots.true))  -- returns-then-order-lots
+    (λ c. rw (le-ltb _ _ c.if-order-lots.false) refl))  -- returns-2

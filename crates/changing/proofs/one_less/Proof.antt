@@ -4,17 +4,17 @@ use native.Mathlib.Omega.{arith}
 use Rattle.changing.proofs.one_less.Statement.{statement}
 use Rattle.changing.proofs.one_less.Tie as tie
 
-sub-less : tie.Need-overflow-sub-less
-sub-less c = omega (arith, rw c.before.if1.true at c.before.before.requires)
+sub-less : tie.Need-overflow_sub-less
+sub-less c = omega (arith, rw c.if-sell.true at c.requires)
 
-returns : tie.Need-returns
-returns c = rw c.before.if1.true refl
+returns : tie.Need-returns-then-sell
+returns c = rw c.if-sell.true refl
 
-sub-less-2 : tie.Need-overflow-sub-less-2
-sub-less-2 c = omega (arith, rw c.before.if1.false at c.before.before.requires)
+sub-less-2 : tie.Need-overflow_sub-less-2
+sub-less-2 c = omega (arith, rw c.if-sell.false at c.requires)
 
-returns-2 : tie.Need-returns-2
-returns-2 c = rw c.before.if1.false refl
+returns-2 : tie.Need-returns
+returns-2 c = rw c.if-sell.false refl
 
-pub one-less-spec : {M : Type 1} → statement M
-one-less-spec = tie.close (tie.spec sub-less returns sub-less-2 returns-2)
+pub one_less_spec : {M : Type 1} → statement M
+one_less_spec = tie.close (tie.spec sub-less returns sub-less-2 returns-2)

@@ -6,27 +6,25 @@ use Rattle.changing.proofs.take_out.Tie as tie
 
 remove-requires : tie.Need-remove-requires
 remove-requires c κs =
-    let start = c.before.before.before.before in
-    (rw c.before.if1.true at start.requires.0, rw c.before.if1.true at start.requires.1)
+    (rw c.if-r.true at c.requires.0, rw c.if-r.true at c.requires.1)
 
-same_length : tie.Need-same-length
+same_length : tie.Need-shape_of-sells-then-r
 same_length c = search rules
 
-returns : tie.Need-returns
-returns c = rw c.before.before.before.before.if1.true (refl, c.before.before.remove.ensures)
+returns : tie.Need-returns-then-r
+returns c = rw c.if-r.true (refl, c.remove.ensures)
 
 remove-requires-2 : tie.Need-remove-requires-2
 remove-requires-2 c κs =
-    let start = c.before.before.before.before in
-    (rw c.before.if1.false at start.requires.0, rw c.before.if1.false at start.requires.1)
+    (rw c.if-r.false at c.requires.0, rw c.if-r.false at c.requires.1)
 
-same-length-2 : tie.Need-same-length-2
+same-length-2 : tie.Need-shape_of-buys
 same-length-2 c = search rules
 
-returns-2 : tie.Need-returns-2
-returns-2 c = rw c.before.before.before.before.if1.false (c.before.before.remove2.ensures, refl)
+returns-2 : tie.Need-returns
+returns-2 c = rw c.if-r.false (c.remove-2.ensures, refl)
 
-pub take-out-spec : {M : Type 1} → statement M
-take-out-spec =
+pub take_out_spec : {M : Type 1} → statement M
+take_out_spec =
     tie.close
     (tie.spec remove-requires same_length returns remove-requires-2 same-length-2 returns-2)
