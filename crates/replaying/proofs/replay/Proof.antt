@@ -35,13 +35,12 @@ returns c =
     c.wide-buyer.ensures c.wide-c.ensures (refused c.is_covered.ensures (ap not c.if-not-is_covered.true))
 
 book-leg-requires : tie.Need-book_leg-requires invariant-loop decreases-loop
-book-leg-requires c κs =
-    (
-      contract c.before.before.before.before.before,
-      (trade c.before.before.before.before.before.before).lots,
-      buyer_fits c.loop-i.invariant c.loop-i-test.true
-          c.trade_at-t.ensures (trade c.before.before.before.before.before.before) c.wide-buyer.ensures c.wide-c.ensures,
-    )
+book-leg-requires c κs = (
+  contract c.before.before.before.before.before,
+  (trade c.before.before.before.before.before.before).lots,
+  buyer_fits c.loop-i.invariant c.loop-i-test.true
+      c.trade_at-t.ensures (trade c.before.before.before.before.before.before) c.wide-buyer.ensures c.wide-c.ensures,
+)
 
 seller : (c : tie.After-wide-seller invariant-loop decreases-loop) → c.wide-seller.result < 32
 seller c = omega (arith, c.wide-seller.ensures, (trade c.before.before.before.before.before.before.before.before).seller, c.requires.fit)

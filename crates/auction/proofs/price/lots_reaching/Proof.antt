@@ -25,15 +25,14 @@ few : (c : tie.After-lots_of-lots invariant-loop decreases-loop) → c.lots_of-l
 few c = reaching_within _ _ _ _ c.lots_of-lots.ensures
 
 loop-again : tie.Need-loop-i-preserved invariant-loop decreases-loop
-loop-again c =
-    (
-      omega arith,
-      (
-        omega (arith, few c),
-        tally_on (lots_reaching _ _) _ _ _ _ _ _ c.loop-i.invariant.1.1 _ c.loop-i-test.true
-            c.order_at-o.ensures (lots_reaching _ _) _ (reaching_on _ _ _ _ c.lots_of-lots.ensures),
-      ),
-    )
+loop-again c = (
+  omega arith,
+  (
+    omega (arith, few c),
+    tally_on (lots_reaching _ _) _ _ _ _ _ _ c.loop-i.invariant.1.1 _ c.loop-i-test.true
+        c.order_at-o.ensures (lots_reaching _ _) _ (reaching_on _ _ _ _ c.lots_of-lots.ensures),
+  ),
+)
 
 pub lots_reaching_spec : {M : Type 1} → statement M
 lots_reaching_spec = tie.close (tie.spec

@@ -43,23 +43,21 @@ tested c =
 
 resting-lots-requires : tie.Need-resting_lots-bought-requires invariant-loop decreases-loop
 unfolding listing_in
-resting-lots-requires c κs =
-    (
-      few_buys c.requires.0 c.requires.1,
-      buys_room c.requires.0 c.requires.1,
-      λ i l. orders_summable _ _ _ (listing c.args.state c.args.buys.now c.args.sells.now c.args.c) (counts_ok _ c.requires.0.counts).accounts_high
-          c.requires.2 false i (rw length_queue l),
-    )
+resting-lots-requires c κs = (
+  few_buys c.requires.0 c.requires.1,
+  buys_room c.requires.0 c.requires.1,
+  λ i l. orders_summable _ _ _ (listing c.args.state c.args.buys.now c.args.sells.now c.args.c) (counts_ok _ c.requires.0.counts).accounts_high
+      c.requires.2 false i (rw length_queue l),
+)
 
 resting-lots-requires-2 : tie.Need-resting_lots-sold-requires invariant-loop decreases-loop
 unfolding listing_in
-resting-lots-requires-2 c κs =
-    (
-      few_sells c.requires.0 c.requires.1,
-      sells_room c.requires.0 c.requires.1,
-      λ i l. orders_summable _ _ _ (listing c.args.state c.args.buys.now c.args.sells.now c.args.c) (counts_ok _ c.requires.0.counts).accounts_high
-          c.requires.2 true i (rw length_queue l),
-    )
+resting-lots-requires-2 c κs = (
+  few_sells c.requires.0 c.requires.1,
+  sells_room c.requires.0 c.requires.1,
+  λ i l. orders_summable _ _ _ (listing c.args.state c.args.buys.now c.args.sells.now c.args.c) (counts_ok _ c.requires.0.counts).accounts_high
+      c.requires.2 true i (rw length_queue l),
+)
 
 pub held_in_range_spec : {M : Type 1} → statement M
 held_in_range_spec = tie.close (tie.spec

@@ -22,12 +22,11 @@ returns c =
     marked_again c.requires c.loop-left.invariant.1 (c.loop-left.left - 1) (omega arith) c.loop-left.invariant.0 (refused c.is_fresh.ensures (ap not c.if-not-is_fresh.true))
 
 loop-again : tie.Need-loop-left-preserved-then-marks-mark-ne0 invariant-loop decreases-loop
-loop-again c =
-    (
-      omega arith,
-      marked_fresh c.requires c.loop-left.invariant.1 (c.loop-left.left - 1) (omega arith) c.loop-left.invariant.0
-          (ap (λ (k : ℕ). k % 4_096) c.wide-value.ensures) c.if-marks-mark-ne0.true (passed c.is_fresh.ensures (ap not c.if-not-is_fresh.false)),
-    )
+loop-again c = (
+  omega arith,
+  marked_fresh c.requires c.loop-left.invariant.1 (c.loop-left.left - 1) (omega arith) c.loop-left.invariant.0
+      (ap (λ (k : ℕ). k % 4_096) c.wide-value.ensures) c.if-marks-mark-ne0.true (passed c.is_fresh.ensures (ap not c.if-not-is_fresh.false)),
+)
 
 loop-again-2 : tie.Need-loop-left-preserved invariant-loop decreases-loop
 loop-again-2 c = (

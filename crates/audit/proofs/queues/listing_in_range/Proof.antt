@@ -46,12 +46,11 @@ returns-5 c =
     fails (listing_chain _ _ _ _) 4 (refused c.orders_in_range.ensures (ap not c.if-not-orders_in_range.true))
 
 orders-in-range-requires-2 : tie.Need-orders_in_range-requires-2
-orders-in-range-requires-2 c κs =
-    (
-      sells_room c.requires.0 c.requires.1,
-      terms_passed _
-          (passed c.contract_in_range.ensures (ap not c.if-not-contract_in_range.false)),
-    )
+orders-in-range-requires-2 c κs = (
+  sells_room c.requires.0 c.requires.1,
+  terms_passed _
+      (passed c.contract_in_range.ensures (ap not c.if-not-contract_in_range.false)),
+)
 
 returns-6 : tie.Need-returns
 unfolding listing_in

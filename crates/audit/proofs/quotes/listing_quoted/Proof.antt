@@ -17,12 +17,11 @@ use Rattle.audit.proofs.quotes.listing_quoted.Tie as tie
 
 queue-quoted-requires : tie.Need-queue_quoted-requires
 unfolding listing_in
-queue-quoted-requires c κs =
-    (
-      (counts_ok _ c.requires.0.counts).accounts_high,
-      buys_room c.requires.0 c.requires.1,
-      λ i l. orders_markable _ _ _ (listing c.args.state c.args.buys.now c.args.sells.now c.args.c) c.requires.2 false i (rw length_queue l),
-    )
+queue-quoted-requires c κs = (
+  (counts_ok _ c.requires.0.counts).accounts_high,
+  buys_room c.requires.0 c.requires.1,
+  λ i l. orders_markable _ _ _ (listing c.args.state c.args.buys.now c.args.sells.now c.args.c) c.requires.2 false i (rw length_queue l),
+)
 
 returns : tie.Need-returns-then-not-queue_quoted
 unfolding listing_in
@@ -30,12 +29,11 @@ returns c = fails (quoted_chain _ _) 0 (refused c.queue_quoted.ensures (ap not c
 
 queue-quoted-requires-2 : tie.Need-queue_quoted-requires-2
 unfolding listing_in
-queue-quoted-requires-2 c κs =
-    (
-      (counts_ok _ c.requires.0.counts).accounts_high,
-      sells_room c.requires.0 c.requires.1,
-      λ i l. orders_markable _ _ _ (listing c.args.state c.args.buys.now c.args.sells.now c.args.c) c.requires.2 true i (rw length_queue l),
-    )
+queue-quoted-requires-2 c κs = (
+  (counts_ok _ c.requires.0.counts).accounts_high,
+  sells_room c.requires.0 c.requires.1,
+  λ i l. orders_markable _ _ _ (listing c.args.state c.args.buys.now c.args.sells.now c.args.c) c.requires.2 true i (rw length_queue l),
+)
 
 returns-2 : tie.Need-returns
 unfolding listing_in

@@ -22,13 +22,12 @@ abbrev decreases-loop : tie.decreases-loop-c
 decreases-loop state buys sells contracts c₀ c = contracts - c
 
 listing-quoted-requires : tie.Need-listing_quoted-requires invariant-loop decreases-loop
-listing-quoted-requires c κs =
-    (
-      c.requires.0,
-      c.loop-c-test.true,
-      all_at (λ d. listing_in_range c.args.state.accountcount c.args.state.next c.args.state.nextstamp (listing c.args.state
-          c.args.buys.now c.args.sells.now d)) c.loop-c.c c.args.state.contractcount c.requires.1 c.loop-c-test.true,
-    )
+listing-quoted-requires c κs = (
+  c.requires.0,
+  c.loop-c-test.true,
+  all_at (λ d. listing_in_range c.args.state.accountcount c.args.state.next c.args.state.nextstamp (listing c.args.state
+      c.args.buys.now c.args.sells.now d)) c.loop-c.c c.args.state.contractcount c.requires.1 c.loop-c-test.true,
+)
 
 pub listings_quoted_spec : {M : Type 1} → statement M
 listings_quoted_spec = tie.close (tie.spec

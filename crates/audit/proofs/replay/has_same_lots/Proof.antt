@@ -37,12 +37,11 @@ returns-2 c =
     short_differs c.args.a.holdings c.args.b.holdings _ _ c.loop-c.invariant.1 c.loop-c-test.true (first c.before.before.before.before.before.before.before.before.before.before) (second c.before.before.before.before.before.before.before.before.before.before) c.if-h-k.false c.if-h-k-2.true
 
 loop-again : tie.Need-loop-c-preserved invariant-loop decreases-loop
-loop-again c =
-    (
-      omega arith,
-      same_turn c.args.a.holdings c.args.b.holdings _ _ c.loop-c.invariant.1 c.loop-c-test.true (first c.before.before.before.before.before.before.before.before.before.before)
-          (second c.before.before.before.before.before.before.before.before.before.before) c.if-h-k.false c.if-h-k-2.false,
-    )
+loop-again c = (
+  omega arith,
+  same_turn c.args.a.holdings c.args.b.holdings _ _ c.loop-c.invariant.1 c.loop-c-test.true (first c.before.before.before.before.before.before.before.before.before.before)
+      (second c.before.before.before.before.before.before.before.before.before.before) c.if-h-k.false c.if-h-k-2.false,
+)
 
 returns-3 : tie.Need-returns invariant-loop decreases-loop
 returns-3 c =

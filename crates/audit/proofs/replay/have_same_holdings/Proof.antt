@@ -38,12 +38,11 @@ returns c =
     (refused c.has_same_lots.ensures (ap not c.if-not-has_same_lots.true))
 
 loop-again : tie.Need-loop-a-preserved invariant-loop decreases-loop
-loop-again c =
-    (
-      omega arith,
-      account_turn c.args.contracts c.args.accounts c.args.list c.args.others _ c.loop-a.invariant.1 c.loop-a-test.true (first c.before.before.before.before.before.before) (second c.before.before.before.before.before.before)
-          (passed c.has_same_lots.ensures (ap not c.if-not-has_same_lots.false)),
-    )
+loop-again c = (
+  omega arith,
+  account_turn c.args.contracts c.args.accounts c.args.list c.args.others _ c.loop-a.invariant.1 c.loop-a-test.true (first c.before.before.before.before.before.before) (second c.before.before.before.before.before.before)
+      (passed c.has_same_lots.ensures (ap not c.if-not-has_same_lots.false)),
+)
 
 returns-2 : tie.Need-returns invariant-loop decreases-loop
 returns-2 c =

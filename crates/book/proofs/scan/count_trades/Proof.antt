@@ -29,12 +29,11 @@ returns-2 c =
     (λ os. count_unmet _ _ _ os (test_failed _ _ c.meets.ensures (ap not c.if-not-meets.true)))
 
 loop-again : tie.Need-loop-i-preserved invariant-loop decreases-loop
-loop-again c =
-    (
-      omega arith,
-      tally_on (count_trades _ _) _ _ _ _ _ _ c.loop-i.invariant.1 _ c.loop-i-test.true c.order_at-o.ensures
-          (count_trades _ _) 1 (trades_on _ _ _ _ c.if-left-eq0.false c.smaller-size.ensures (test_passed _ _ c.meets.ensures (ap not c.if-not-meets.false))),
-    )
+loop-again c = (
+  omega arith,
+  tally_on (count_trades _ _) _ _ _ _ _ _ c.loop-i.invariant.1 _ c.loop-i-test.true c.order_at-o.ensures
+      (count_trades _ _) 1 (trades_on _ _ _ _ c.if-left-eq0.false c.smaller-size.ensures (test_passed _ _ c.meets.ensures (ap not c.if-not-meets.false))),
+)
 
 pub count_trades_spec : {M : Type 1} → statement M
 count_trades_spec = tie.close (tie.spec

@@ -29,15 +29,14 @@ returns c =
     (λ os. front_unmet _ _ os (test_failed _ _ c.meets.ensures (ap not c.if-not-meets.true)))
 
 loop-again : tie.Need-loop-i-preserved invariant-loop decreases-loop
-loop-again c =
-    (
-      omega arith,
-      (
-        omega arith,
-        tally_on (fillable_front _) _ _ _ _ _ _ c.loop-i.invariant.1.1 _ c.loop-i-test.true
-            c.order_at-o.ensures (fillable_front _) _ (fillable_on _ _ _ c.wide64-lots.ensures (test_passed _ _ c.meets.ensures (ap not c.if-not-meets.false))),
-      ),
-    )
+loop-again c = (
+  omega arith,
+  (
+    omega arith,
+    tally_on (fillable_front _) _ _ _ _ _ _ c.loop-i.invariant.1.1 _ c.loop-i-test.true
+        c.order_at-o.ensures (fillable_front _) _ (fillable_on _ _ _ c.wide64-lots.ensures (test_passed _ _ c.meets.ensures (ap not c.if-not-meets.false))),
+  ),
+)
 
 pub fillable_front_spec : {M : Type 1} → statement M
 fillable_front_spec = tie.close (tie.spec

@@ -24,15 +24,14 @@ few : (c : tie.After-lots_of-lots invariant-loop decreases-loop) → c.lots_of-l
 few c = resting_within _ _ _ _ c.lots_of-lots.ensures
 
 loop-again : tie.Need-loop-i-preserved-then-word_at-account invariant-loop decreases-loop
-loop-again c =
-    (
-      omega arith,
-      (
-        omega (arith, few c, c.order_at-o.type_inv),
-        tally_on (resting _ _) _ _ _ _ _ _ c.loop-i.invariant.1.1 _ c.loop-i-test.true
-            c.order_at-o.ensures (resting _ _) _ (resting_on _ _ _ _ c.lots_of-lots.ensures),
-      ),
-    )
+loop-again c = (
+  omega arith,
+  (
+    omega (arith, few c, c.order_at-o.type_inv),
+    tally_on (resting _ _) _ _ _ _ _ _ c.loop-i.invariant.1.1 _ c.loop-i-test.true
+        c.order_at-o.ensures (resting _ _) _ (resting_on _ _ _ _ c.lots_of-lots.ensures),
+  ),
+)
 
 loop-again-2 : tie.Need-loop-i-preserved invariant-loop decreases-loop
 loop-again-2 c =

@@ -5,12 +5,11 @@ use Rattle.dayprofit.proofs.profit.profit_at.Statement.{statement}
 use Rattle.dayprofit.proofs.profit.profit_at.Tie as tie
 
 profit-of-requires : tie.Need-profit_of-requires
-profit-of-requires c κs =
-    (
-      side_known _ _ _ _ c.sums_at-long.ensures c.requires.long _ c.side_of.ensures,
-      side_known _ _ _ _ c.sums_at-short.ensures c.requires.short _ c.side_of-2.ensures,
-      c.requires.marked,
-    )
+profit-of-requires c κs = (
+  side_known _ _ _ _ c.sums_at-long.ensures c.requires.long _ c.side_of.ensures,
+  side_known _ _ _ _ c.sums_at-short.ensures c.requires.short _ c.side_of-2.ensures,
+  c.requires.marked,
+)
 
 returns : tie.Need-returns
 returns c =

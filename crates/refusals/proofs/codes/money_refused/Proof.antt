@@ -13,13 +13,12 @@ returns : tie.Need-returns-then-o
 returns c = close_free c.requires.0 c.args.o c.requires.1 c.if-o.true
 
 book-leg-requires : tie.Need-book_leg-held-requires
-book-leg-requires c κs =
-    (
-      place_fits c.requires.0 c.args.o c.requires.1 c.place_of-c.ensures,
-      c.requires.2,
-      can_hold c.requires.0
-          c.args.o c.requires.1 c.requires.2 c.place_of-c.ensures c.place_of-a.ensures c.requires.3,
-    )
+book-leg-requires c κs = (
+  place_fits c.requires.0 c.args.o c.requires.1 c.place_of-c.ensures,
+  c.requires.2,
+  can_hold c.requires.0
+      c.args.o c.requires.1 c.requires.2 c.place_of-c.ensures c.place_of-a.ensures c.requires.3,
+)
 
 charged-requires : tie.Need-charged-charged-requires
 charged-requires c κs =

@@ -42,12 +42,11 @@ returns-2 c =
     code_lots_or_money c.requires.0 c.args.o (fields c.before.before.before.before.before.before.before) c.if-fields-ne0.false c.account_code-account.ensures c.if-account-ne0.true
 
 taker-of-requires : tie.Need-taker_of-t-requires
-taker-of-requires c κs =
-    (
-      c.requires.1.account_low,
-      c.requires.1.contract_low,
-      opposite_room c.requires.0 c.args.o c.requires.1 c.place_of-c.ensures c.side_area-area.ensures c.side_count-count.ensures,
-    )
+taker-of-requires c κs = (
+  c.requires.1.account_low,
+  c.requires.1.contract_low,
+  opposite_room c.requires.0 c.args.o c.requires.1 c.place_of-c.ensures c.side_area-area.ensures c.side_count-count.ensures,
+)
 
 book-code-requires : tie.Need-book_code-requires
 book-code-requires c κs =

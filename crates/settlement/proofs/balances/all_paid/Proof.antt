@@ -24,19 +24,18 @@ put-all-due-requires c κs =
 
 -- the sums are the day's, in rooms of one word for each slot
 loop-holds : tie.Need-loop-a-init invariant-loop decreases-loop
-loop-holds c =
-    (
-      day_summed c.requires
-          (record { closing = c.add_up.ensures; opening = c.add_up-2.ensures; due = c.put_all_due.ensures; taken = c.take_first.ensures.0 })
-          (record {
-            closed_room = c.add_up.auto.lots;
-            closes_room = c.add_up.auto.value;
-            opened_room = c.add_up-2.auto.lots;
-            opens_room = c.add_up-2.auto.value;
-            used_room = c.take_first.auto.used;
-          }),
-      paying_none _ _ _,
-    )
+loop-holds c = (
+  day_summed c.requires
+      (record { closing = c.add_up.ensures; opening = c.add_up-2.ensures; due = c.put_all_due.ensures; taken = c.take_first.ensures.0 })
+      (record {
+        closed_room = c.add_up.auto.lots;
+        closes_room = c.add_up.auto.value;
+        opened_room = c.add_up-2.auto.lots;
+        opens_room = c.add_up-2.auto.value;
+        used_room = c.take_first.auto.used;
+      }),
+  paying_none _ _ _,
+)
 
 -- the turn in which an account's total was asked for
 abbrev turn : tie.After-used-in-loop-a-1 invariant-loop decreases-loop → tie.In-loop-a invariant-loop decreases-loop
