@@ -20,183 +20,128 @@ use borrow.Author.Rules.{rules}
 use Rattle.quoting.proofs.quote.Statement.{statement}
 use Rattle.quoting.proofs.quote.Tie as tie
 
--- back to the call of `place_of`
-abbrev Place-of : tie.After-offers → tie.After-place-of
-Place-of c = c.before.before.before.before.before.before
-
--- back to the call whose answer is `placed`
-abbrev Placed : tie.Else2 → tie.After-rest-both
-Placed c = c.before.before.before.before.before.before.before.before
-
--- back to the call whose answer is `placed`
-abbrev Rest-both : tie.After-bids3 → tie.After-rest-both
-Rest-both c = c.before.before.before.before.before.before.before.before.before.before
-
--- back to the test `placed.trades`
-abbrev Met-placed : tie.After-offers4 → tie.Then3
-Met-placed c = c.before.before.before.before.before.before.before
-
--- back to the call of `put_back`
-abbrev Put-back : tie.After-offers3 → tie.After-put-back
-Put-back c = c.before.before.before.before
-
--- from the last of the early tests to the start
-abbrev Begun : tie.Else1 → tie.Start
-Begun c = c.before.before.before.before.before
-
--- from both orders to the contract's place, and to where each queue was kept
-abbrev Named : tie.After-rest-both → tie.After-place-of
-Named c = c.before.before.before.before.before.before.before.before.before.before.before
-
-abbrev Bids : tie.After-rest-both → tie.After-keep
-Bids c = c.before.before.before.before.before.before.before.before
-
-abbrev Offers : tie.After-rest-both → tie.After-keep2
-Offers c = c.before.before.before.before
-
 -- none of 2, 3, 4, 23 and 24 holds
-none : (c : tie.Else1) → let start = Begun c in
-    first_of (early_refusals (exchange_of (memory start.args.state start.args.buys.now start.args.sells.now start.args.trades.now))
-    start.args.q.account start.args.q.contract start.args.q.buy start.args.q.sell) ≡ 0
-none c = sym (c.before.early-code.ensures (Begun c).requires.0.declared _ _ _) ∙ c.if1.false
+none : (c : tie.Else-early-ne0) → first_of (early_refusals (exchange_of (memory c.args.state c.args.buys.now c.args.sells.now c.args.trades.now))
+    c.args.q.account c.args.q.contract c.args.q.buy c.args.q.sell) ≡ 0
+none c = sym (c.early_code-early.ensures c.requires.0.declared _ _ _) ∙ c.if-early-ne0.false
 
-named : (c : tie.Else1) → let start = Begun c in
-    Failed (named_refusals (exchange_of (memory start.args.state start.args.buys.now start.args.sells.now start.args.trades.now))
-    not_continuous start.args.q.account start.args.q.contract)
-named c = named_passed _ _ _ (Begun c).args.q.buy (Begun c).args.q.sell (none c)
+named : (c : tie.Else-early-ne0) → Failed (named_refusals (exchange_of (memory c.args.state c.args.buys.now c.args.sells.now c.args.trades.now))
+    not_continuous c.args.q.account c.args.q.contract)
+named c = named_passed _ _ _ c.args.q.buy c.args.q.sell (none c)
 
-here : (c : tie.Else1) → place_of (Begun c).args.q.contract < (Begun c).args.state.contractcount
-here c = contract_here (Begun c).requires.0 _ _ (named c)
+here : (c : tie.Else-early-ne0) → place_of c.args.q.contract < c.args.state.contractcount
+here c = contract_here c.requires.0 _ _ (named c)
 
-returns : tie.Need-returns
+returns : tie.Need-returns-then-early-ne0
 returns c =
-    let tested = c.before.before in
-    let start = tested.before.before.before.before in
-    let q = start.args.q in
-    refusal_decided (early_refused start.requires.0 q.account q.contract q.lots q.buy q.sell (tested.early-code.ensures
-    start.requires.0.declared _ _ _) c.before.if1.true refl) c.refused.ensures
+    let q = c.args.q in
+    refusal_decided (early_refused c.requires.0 q.account q.contract q.lots q.buy q.sell (c.early_code-early.ensures
+    c.requires.0.declared _ _ _) c.if-early-ne0.true refl) c.refused.ensures
 
 keep-requires : tie.Need-keep-requires
 keep-requires c κs =
-    let named = c.before.before in
-    queue_room (Begun named.before).requires.0 (here named.before) false named.place_of.ensures refl
+    queue_room c.requires.0 (here c.before.before) false c.place_of-queue.ensures refl
 
 keep-requires-2 : tie.Need-keep-requires-2
 keep-requires-2 c κs =
-    let named = Place-of c in
-    queue_room (Begun named.before).requires.0 (here named.before) true named.place_of.ensures refl
+    queue_room c.requires.0 (here c.before.before.before.before.before) true c.place_of-queue.ensures refl
 
-rest-both-requires : tie.Need-rest-both-requires
+rest-both-requires : tie.Need-rest_both-placed-requires
 rest-both-requires c κs =
-    let named-place = Place-of c.before.before.before.before in
-    let tested = named-place.before in
-    let start = Begun tested in
-    (start.pre.0, none tested, held_here start.args.state start.args.q.account (sym (no_account_lem _ (formed start.pre.0) _) ∙ (named tested).0) start.pre.1)
+    (c.requires.0, none c.before.before.before.before.before.before.before.before.before, held_here c.args.state c.args.q.account (sym (no_account_lem _ (formed c.requires.0) _) ∙ (named c.before.before.before.before.before.before.before.before.before).0) c.requires.1)
 
-put-back-requires : tie.Need-put-back-requires
+put-back-requires : tie.Need-put_back-requires
 put-back-requires c κs =
-    let placed = Rest-both c in
-    let named-place = Named placed in
     omega (
       arith,
-      (Offers placed).before.before.before.bids2.given,
-      queue_room (Begun named-place.before).requires.0 (here named-place.before)
-          false named-place.place_of.ensures refl,
-      (placed.rest_both.ensures.refused_back c.before.before.if2.true).of_buys.long,
+      c.bids-2-1.given,
+      queue_room c.requires.0 (here c.before.before.before.before.before.before.before.before.before.before.before.before.before.before.before.before.before.before.before.before)
+          false c.place_of-queue.ensures refl,
+      (c.rest_both-placed.ensures.refused_back c.if-answer-ne0.true).of_buys.long,
     )
 
-put-back-requires-2 : tie.Need-put-back-requires-2
+put-back-requires-2 : tie.Need-put_back-requires-then-answer-ne0
 put-back-requires-2 c κs =
-    let placed = Rest-both (Put-back c).before in
-    let named-place = Named placed in
     omega (
       arith,
-      placed.before.before.before.offers2.given,
-      queue_room (Begun named-place.before).requires.0 (here named-place.before)
-          true named-place.place_of.ensures refl,
-      (placed.rest_both.ensures.refused_back (Put-back c).before.before.before.if2.true).of_sells.long,
+      c.offers-2-1.given,
+      queue_room c.requires.0 (here c.before.before.before.before.before.before.before.before.before.before.before.before.before.before.before.before.before.before.before.before.before.before.before.before.before)
+          true c.place_of-queue.ensures refl,
+      (c.rest_both-placed.ensures.refused_back c.if-answer-ne0.true).of_sells.long,
     )
 
-returns-2 : tie.Need-returns-2
+returns-2 : tie.Need-returns-then-answer-ne0
 returns-2 c =
-    let placed = c.before.before.before.before.before.before.before.before.before.before.before.before.before.before.before.before.before.before.before in
-    let some = c.before.before.before.before.before.before.before.before.before.before.before.if2.true in
-    let back = placed.rest_both.ensures.refused_back some in
-    let queue = (Named placed).place_of.ensures in
-    quote_refused placed.rest_both.ensures some
-    (undone back.of_buys (rw queue refl) refl (Bids placed).keep.ensures c.before.before.before.before.before.before.before.before.put_back.ensures)
-    (undone back.of_sells (rw queue refl) refl (Offers placed).keep2.ensures c.before.before.before.put-back2.ensures) c.refused2.ensures
+    let some = c.if-answer-ne0.true in
+    let back = c.rest_both-placed.ensures.refused_back some in
+    let queue = c.place_of-queue.ensures in
+    quote_refused c.rest_both-placed.ensures some
+    (undone back.of_buys (rw queue refl) refl c.keep.ensures c.put_back.ensures)
+    (undone back.of_sells (rw queue refl) refl c.keep-2.ensures c.put_back-then-answer-ne0.ensures) c.refused-then-answer-ne0.ensures
 
-put-back-requires-3 : tie.Need-put-back-requires-3
+put-back-requires-3 : tie.Need-put_back-requires-then-placed
 put-back-requires-3 c κs =
-    let placed = Placed c.before.before.before in
-    let named-place = Named placed in
     omega (
       arith,
-      (Offers placed).before.before.before.bids2.given,
-      queue_room (Begun named-place.before).requires.0 (here named-place.before)
-          false named-place.place_of.ensures refl,
-      (placed.rest_both.ensures.left_back c.before.before.before.if2.false c.before.before.if3.true).of_buys.long,
+      c.bids-2-1.given,
+      queue_room c.requires.0 (here c.before.before.before.before.before.before.before.before.before.before.before.before.before.before.before.before.before.before.before.before.before)
+          false c.place_of-queue.ensures refl,
+      (c.rest_both-placed.ensures.left_back c.if-answer-ne0.false c.if-placed.true).of_buys.long,
     )
 
-put-back-requires-4 : tie.Need-put-back-requires-4
+put-back-requires-4 : tie.Need-put_back-requires-then-placed-2
 put-back-requires-4 c κs =
-    let placed = Placed (Met-placed c).before in
-    let named-place = Named placed in
     omega (
       arith,
-      placed.before.before.before.offers2.given,
-      queue_room (Begun named-place.before).requires.0 (here named-place.before)
-          true named-place.place_of.ensures refl,
-      (placed.rest_both.ensures.left_back (Met-placed c).before.if2.false (Met-placed c).if3.true).of_sells.long,
+      c.offers-2-1.given,
+      queue_room c.requires.0 (here c.before.before.before.before.before.before.before.before.before.before.before.before.before.before.before.before.before.before.before.before.before.before.before.before.before.before)
+          true c.place_of-queue.ensures refl,
+      (c.rest_both-placed.ensures.left_back c.if-answer-ne0.false c.if-placed.true).of_sells.long,
     )
 
-returns-3 : tie.Need-returns-3
+returns-3 : tie.Need-returns-then-placed
 returns-3 c =
-    let placed = c.before.before.before.before.before.before.before.before.before.before.before.before.before.before.before.before.before.before.before.before.before in
-    let back = placed.rest_both.ensures.left_back c.before.before.before.before.before.before.before.before.before.before.before.before.before.if2.false
-    c.before.before.before.before.before.before.before.before.before.before.before.before.if3.true in
-    let queue = (Named placed).place_of.ensures in
-    quote_left_lem placed.rest_both.ensures
-    (undone back.of_buys (rw queue refl) refl (Bids placed).keep.ensures c.before.before.before.before.before.before.before.before.before.put-back3.ensures)
-    (undone back.of_sells (rw queue refl) refl (Offers placed).keep2.ensures c.before.before.before.before.put-back4.ensures) c.before.left-to-trade.ensures c.left.ensures
+    let back = c.rest_both-placed.ensures.left_back c.if-answer-ne0.false
+    c.if-placed.true in
+    let queue = c.place_of-queue.ensures in
+    quote_left_lem c.rest_both-placed.ensures
+    (undone back.of_buys (rw queue refl) refl c.keep.ensures c.put_back-then-placed.ensures)
+    (undone back.of_sells (rw queue refl) refl c.keep-2.ensures c.put_back-then-placed-2.ensures) c.left_to_trade.ensures c.left.ensures
 
-returns-4 : tie.Need-returns-4
+returns-4 : tie.Need-returns
 returns-4 c =
-    let placed = Placed c.before in
-    let tested = (Named placed).before in
-    quote_rests placed.rest_both.ensures c.before.if2.false c.if3.false
-    (omega (arith, placed.rest_both.ensures.place, here tested, (formed (Begun tested).pre.0).contracts_high))
+    quote_rests c.rest_both-placed.ensures c.if-answer-ne0.false c.if-placed.false
+    (omega (arith, c.rest_both-placed.ensures.place, here c.before.before.before.before.before.before.before.before.before.before.before.before.before.before.before.before.before.before.before, (formed c.requires.0).contracts_high))
 
-pub quote-spec : {M : Type 1} → statement M
-quote-spec = tie.close (tie.spec
-    (λ c κs. let start = c.before.before.before in ((formed start.requires.0).contracts_high, (formed start.requires.0).accounts_high))  -- early-code-requires
+pub quote_spec : {M : Type 1} → statement M
+quote_spec = tie.close (tie.spec
+    (λ c κs. ((formed c.requires.0).contracts_high, (formed c.requires.0).accounts_high))  -- early_code-early-requires
     (λ c κs. search rules)  -- refused-requires
     returns
-    (λ c κs. contract_low (Begun c).requires.0 _ _ (named c))  -- place-of-requires
-    (λ c. search rules)  -- mul-queue
-    (λ c. search rules)  -- slice-aggregate-keep
+    (λ c κs. contract_low c.requires.0 _ _ (named c))  -- place_of-queue-requires
+    (λ c. search rules)  -- overflow_mul-queue
+    (λ c. search rules)  -- slice_bounds-keep-end
     keep-requires
-    (λ c. search rules)  -- slice-aggregate-keep-2
+    (λ c. search rules)  -- slice_bounds-keep-end-2
     keep-requires-2
     rest-both-requires
-    (λ c. search rules)  -- slice-aggregate-put-back
+    (λ c. search rules)  -- slice_bounds-put_back-end
     put-back-requires
-    (λ c. search rules)  -- slice-aggregate-put-back-2
+    (λ c. search rules)  -- slice_bounds-put_back-end-then-answer-ne0
     put-back-requires-2
-    (λ c κs. search rules)  -- refused-requires-2
-    (λ c. search rules)  -- same-length
-    (λ c. search rules)  -- same-length-2
+    (λ c κs. search rules)  -- refused-requires-then-answer-ne0
+    (λ c. search rules)  -- shape_of-buys-then-answer-ne0
+    (λ c. search rules)  -- shape_of-sells-then-answer-ne0
     returns-2
-    (λ c. search rules)  -- slice-aggregate-put-back-3
+    (λ c. search rules)  -- slice_bounds-put_back-end-then-placed
     put-back-requires-3
-    (λ c. search rules)  -- slice-aggregate-put-back-4
+    (λ c. search rules)  -- slice_bounds-put_back-end-then-placed-2
     put-back-requires-4
-    (λ c κs. search rules)  -- left-to-trade-requires
+    (λ c κs. search rules)  -- left_to_trade-requires
     (λ c κs. search rules)  -- left-requires
-    (λ c. search rules)  -- same-length-3
-    (λ c. search rules)  -- same-length-4
+    (λ c. search rules)  -- shape_of-buys-then-placed
+    (λ c. search rules)  -- shape_of-sells-then-placed
     returns-3
-    (λ c. search rules)  -- same-length-5
-    (λ c. search rules)  -- same-length-6
+    (λ c. search rules)  -- shape_of-buys
+    (λ c. search rules)  -- shape_of-sells
     returns-4)

@@ -8,95 +8,55 @@ use borrow.Author.Rules.{rules}
 use Rattle.quoting.proofs.rest_marked.Statement.{statement}
 use Rattle.quoting.proofs.rest_marked.Tie as tie
 
--- back to the call whose answer is `decision`
-abbrev Decision : tie.At-match-keys1 → tie.After-arrive
-Decision c = c.before.before.before.before.before.before
-
--- back to the call whose answer is `decision`
-abbrev Arrive : tie.After-unrested2 → tie.After-arrive
-Arrive c = c.before.before.before.before.before.before.before
-
--- from the order's code to its contract as it stands, and from there to the start
-abbrev Stands : tie.After-order-code → tie.After-listed-at
-Stands c = c.before.before.before
-
-abbrev Begun : tie.After-listed-at → tie.Start
-Begun c = c.before.before.before.before.before
-
--- from the order about to enter to the test of its code
-abbrev Passed : tie.After-arrival-of → tie.Else1
-Passed c = c.before.before.before
-
-listed-at-requires : tie.Need-listed-at-requires
+listed-at-requires : tie.Need-listed_at-listed-requires
 listed-at-requires c κs =
-    let start = c.before.before.before.before in
-    rw c.place_of.ensures (omega (arith, start.requires.1.present.contract, (formed start.requires.0).contracts_high))
+    rw c.place_of.ensures (omega (arith, c.requires.1.present.contract, (formed c.requires.0).contracts_high))
 
-returns : tie.Need-returns
+returns : tie.Need-returns-then-code-ne0
 returns c =
-    let tested = c.before.before in
-    let stands = Stands tested in
-    let start = Begun stands in
-    rest_refused start.pre.0 start.args.o start.pre.1 tested.order-code.ensures stands.before.place_of.ensures
-    stands.listed_at.ensures c.before.if1.true c.unrested.ensures
+    rest_refused c.requires.0 c.args.o c.requires.1 c.order_code-code.ensures c.place_of.ensures
+    c.listed_at-listed.ensures c.if-code-ne0.true c.unrested.ensures
 
-add-arrival-of : tie.Need-overflow-add-arrival-of
+add-arrival-of : tie.Need-overflow_add-number
 add-arrival-of c =
-    let test = c.before.before in
-    let start = Begun (Stands test.before) in
-    omega (arith, numbers_low start.pre.0 start.args.o start.pre.1 test.before.order-code.ensures test.if1.false)
+    omega (arith, numbers_low c.requires.0 c.args.o c.requires.1 c.order_code-code.ensures c.if-code-ne0.false)
 
-arrival-of-requires : tie.Need-arrival-of-requires
+arrival-of-requires : tie.Need-arrival_of-arrival-requires
 arrival-of-requires c κs =
-    let test = c.before.before in
-    let start = Begun (Stands test.before) in
-    known start.pre.0 start.args.o _ _ _ (marked_enterable start.pre.0 start.args.o start.pre.1 test.before.order-code.ensures test.if1.false)
+    known c.requires.0 c.args.o _ _ _ (marked_enterable c.requires.0 c.args.o c.requires.1 c.order_code-code.ensures c.if-code-ne0.false)
 
-arrive-requires : tie.Need-arrive-requires
+arrive-requires : tie.Need-arrive-decision-requires
 arrive-requires c κs =
-    let arrival = c.before.before in
-    let test = Passed arrival in
-    let start = Begun (Stands test.before) in
-    (ready start.pre.0 start.args.o _ _ _ (marked_enterable start.pre.0 start.args.o start.pre.1 test.before.order-code.ensures test.if1.left)
-    arrival.arrival-of.ensures).arrives
+    (ready c.requires.0 c.args.o _ _ _ (marked_enterable c.requires.0 c.args.o c.requires.1 c.order_code-code.ensures c.if-code-ne0.false)
+    c.arrival_of-arrival.ensures).arrives
 
-returns-2 : tie.Need-returns-2
+returns-2 : tie.Need-returns-in-Listing
 returns-2 c =
-    let entered = Decision c.before.before in
-    let arrival = entered.before.before.before in
-    let test = Passed arrival in
-    let stands = Stands test.before in
-    let start = Begun stands in
-    rest_rests start.pre.0 start.args.o start.pre.1 test.before.order-code.ensures stands.before.place_of.ensures
-    stands.listed_at.ensures test.if1.left arrival.arrival-of.ensures entered.arrive.ensures c.before.update.given.1
+    rest_rests c.requires.0 c.args.o c.requires.1 c.order_code-code.ensures c.place_of.ensures
+    c.listed_at-listed.ensures c.if-code-ne0.false c.arrival_of-arrival.ensures c.arrive-decision.ensures c.in-Listing.is
 
-returns-3 : tie.Need-returns-3
+returns-3 : tie.Need-returns-in_default
 returns-3 c =
-    let entered = Arrive c in
-    let arrival = entered.before.before.before in
-    let test = Passed arrival in
-    let stands = Stands test.before in
-    let start = Begun stands in
-    rest_left start.pre.0 start.args.o start.pre.1 test.before.order-code.ensures stands.before.place_of.ensures
-    stands.listed_at.ensures test.if1.left arrival.arrival-of.ensures entered.arrive.ensures c.before.match.keys2 c.unrested2.ensures
+    rest_left c.requires.0 c.args.o c.requires.1 c.order_code-code.ensures c.place_of.ensures
+    c.listed_at-listed.ensures c.if-code-ne0.false c.arrival_of-arrival.ensures c.arrive-decision.ensures c.in_default.in_default-own.keys2 c.unrested-in_default.ensures
 
-pub rest-marked-spec : {M : Type 1} → statement M
-rest-marked-spec = tie.close (tie.spec
-    (λ c κs. search rules)  -- place-of-requires
+pub rest_marked_spec : {M : Type 1} → statement M
+rest_marked_spec = tie.close (tie.spec
+    (λ c κs. search rules)  -- place_of-requires
     listed-at-requires
-    (λ c κs. search rules)  -- order-code-requires
+    (λ c κs. search rules)  -- order_code-code-requires
     (λ c κs. search rules)  -- unrested-requires
-    (λ c. search rules)  -- same-length
-    (λ c. search rules)  -- same-length-2
+    (λ c. search rules)  -- shape_of-buys-then-code-ne0
+    (λ c. search rules)  -- shape_of-sells-then-code-ne0
     returns
     add-arrival-of
     arrival-of-requires
     arrive-requires
-    (λ c. search rules)  -- enum-known-update
-    (λ c κs. search rules)  -- unrested-requires-2
-    (λ c. search rules)  -- same-length-3
-    (λ c. search rules)  -- same-length-4
+    (λ c. search rules)  -- enum_known-update
+    (λ c κs. search rules)  -- unrested-requires-in_default
+    (λ c. search rules)  -- shape_of-buys-in-Listing
+    (λ c. search rules)  -- shape_of-sells-in-Listing
     returns-2
-    (λ c. search rules)  -- same-length-5
-    (λ c. search rules)  -- same-length-6
+    (λ c. search rules)  -- shape_of-buys-in_default
+    (λ c. search rules)  -- shape_of-sells-in_default
     returns-3)

@@ -17,160 +17,106 @@ use borrow.Author.Rules.{rules}
 use Rattle.quoting.proofs.trade.Statement.{statement}
 use Rattle.quoting.proofs.trade.Tie as tie
 
--- back to the start
-abbrev Begun : tie.Else1 → tie.Start
-Begun c = c.before.before.before.before.before
-
--- back to the call whose answer is `early`
-abbrev Early : tie.After-refused → tie.After-early-code
-Early c = c.before.before
-
--- back to the call whose answer is `recorded`
-abbrev Recorded : tie.After-bids2 → tie.After-first-made
-Recorded c = c.before.before.before.before
-
--- back to the call whose answer is `recorded`
-abbrev First-made : tie.After-keep2 → tie.After-first-made
-First-made c = c.before.before.before.before.before.before.before
-
--- back to the call of `keep2`
-abbrev Keep2 : tie.After-place-arg3 → tie.After-keep2
-Keep2 c = c.before.before.before.before.before.before.before.before
-
--- back to the call of `keep3`
-abbrev Keep3 : tie.After-put-back → tie.After-keep3
-Keep3 c = c.before.before.before.before.before.before.before.before.before.before.before.before.before.before.before.before.before
-
--- back to the call whose answer is `placed`
-abbrev Place : tie.Else2 → tie.After-place
-Place c = c.before.before.before.before.before.before.before.before.before
-
--- back to the call whose answer is `placed`
-abbrev Placed : tie.After-bids3 → tie.After-place
-Placed c = c.before.before.before.before.before.before.before.before.before.before.before
-
--- back to the call of `put_back`
-abbrev Put-back : tie.After-offers3 → tie.After-put-back
-Put-back c = c.before.before.before.before
-
--- back to the call of `put-back2`
-abbrev Put-back2 : tie.After-made3 → tie.After-put-back2
-Put-back2 c = c.before.before.before.before
-
 -- none of 2, 3, 4, 23 and 24 holds
-none : (c : tie.Else1) → let start =
-    Begun c in first_of (early_refusals (exchange_of (memory start.args.state start.args.buys.now start.args.sells.now start.args.trades.now))
-    start.args.account start.args.contract start.args.buy start.args.sell) ≡ 0
-none c = sym (c.before.early-code.ensures (Begun c).requires.declared _ _ _) ∙ c.if1.false
+none : (c : tie.Else-early-ne0) → first_of (early_refusals (exchange_of (memory c.args.state c.args.buys.now c.args.sells.now c.args.trades.now))
+    c.args.account c.args.contract c.args.buy c.args.sell) ≡ 0
+none c = sym (c.early_code-early.ensures c.requires.declared _ _ _) ∙ c.if-early-ne0.false
 
-named : (c : tie.Else1) → let start =
-    Begun c in Failed (named_refusals (exchange_of (memory start.args.state start.args.buys.now start.args.sells.now start.args.trades.now))
-    not_continuous start.args.account start.args.contract)
-named c = let start = Begun c in named_passed _ _ _ start.args.buy start.args.sell (none c)
+named : (c : tie.Else-early-ne0) → Failed (named_refusals (exchange_of (memory c.args.state c.args.buys.now c.args.sells.now c.args.trades.now))
+    not_continuous c.args.account c.args.contract)
+named c = named_passed _ _ _ c.args.buy c.args.sell (none c)
 
-here : (c : tie.Else1) → let start = Begun c in place_of start.args.contract < start.args.state.contractcount
-here c = contract_here (Begun c).requires _ _ (named c)
+here : (c : tie.Else-early-ne0) → place_of c.args.contract < c.args.state.contractcount
+here c = contract_here c.requires _ _ (named c)
 
-returns : tie.Need-returns
+returns : tie.Need-returns-then-early-ne0
 returns c =
-    let start = (Early c).before.before.before.before in
-    early_refused start.pre start.args.account start.args.contract start.args.lots start.args.buy start.args.sell
-    (c.before.before.early-code.ensures start.pre.declared _ _ _) c.before.if1.true c.refused.ensures
+    early_refused c.requires c.args.account c.args.contract c.args.lots c.args.buy c.args.sell
+    (c.early_code-early.ensures c.requires.declared _ _ _) c.if-early-ne0.true c.refused.ensures
 
 keep-requires : tie.Need-keep-requires
 keep-requires c κs =
-    let start = Begun c.before.before.before.before in
-    queue_room start.pre (here c.before.before.before.before) false c.before.before.before.place_of.ensures refl
+    queue_room c.requires (here c.before.before.before) false c.place_of-queue.ensures refl
 
 keep-requires-2 : tie.Need-keep-requires-2
 keep-requires-2 c κs =
-    let recorded = Recorded c.before.before in
-    let start = Begun recorded.before.before in
-    queue_room start.pre (here recorded.before.before) true recorded.before.place_of.ensures refl
+    queue_room c.requires (here c.before.before.before.before.before.before) true c.place_of-queue.ensures refl
 
 keep-requires-3 : tie.Need-keep-requires-3
 keep-requires-3 c κs =
-    let start = Begun (First-made c.before.before.before).before.before in
-    kept_room start.pre (First-made c.before.before.before).first_made.ensures refl
+    kept_room c.requires c.first_made-recorded.ensures refl
 
-put-back-requires : tie.Need-put-back-requires
+put-back-requires : tie.Need-put_back-requires
 put-back-requires c κs =
-    let after = (Keep2 (Placed c).before).before.before.before in
-    let start = Begun (Recorded after).before.before in
     omega (
       arith,
-      after.bids2.given,
-      queue_room start.pre (here (Recorded after).before.before) false (Recorded after).before.place_of.ensures
+      c.bids-2-1.given,
+      queue_room c.requires (here c.before.before.before.before.before.before.before.before.before.before.before.before.before.before.before.before.before.before.before.before.before.before.before.before.before.before) false c.place_of-queue.ensures
           refl,
-      ((Placed c).place.ensures.buys_back c.before.before.if2.true).long,
+      (c.place-placed.ensures.buys_back c.if-told-ne0.true).long,
     )
 
-put-back-requires-2 : tie.Need-put-back-requires-2
+put-back-requires-2 : tie.Need-put_back-requires-then-told-ne0
 put-back-requires-2 c κs =
-    let after = (Keep3 (Put-back c)).before.before.before in
-    let start = Begun (First-made after.before).before.before in
     omega (
       arith,
-      after.offers2.given,
-      queue_room start.pre (here (First-made after.before).before.before) true
-          (First-made after.before).before.place_of.ensures refl,
-      ((Placed (Put-back c).before).place.ensures.sells_back (Put-back c).before.before.before.if2.true).long,
+      c.offers-2-1.given,
+      queue_room c.requires (here c.before.before.before.before.before.before.before.before.before.before.before.before.before.before.before.before.before.before.before.before.before.before.before.before.before.before.before.before.before.before.before) true
+          c.place_of-queue.ensures refl,
+      (c.place-placed.ensures.sells_back c.if-told-ne0.true).long,
     )
 
-put-back-requires-3 : tie.Need-put-back-requires-3
+put-back-requires-3 : tie.Need-put_back-requires-then-told-ne0-2
 put-back-requires-3 c κs =
-    let after = Placed (Put-back (Put-back2 c).before).before in
-    let start = Begun (First-made (Keep2 after.before)).before.before in
     omega (
       arith,
-      after.before.before.before.before.made2.given,
-      kept_room start.pre (First-made (Keep2 after.before)).first_made.ensures
+      c.made-2-1.given,
+      kept_room c.requires c.first_made-recorded.ensures
           refl,
-      (after.place.ensures.trades_back (Put-back (Put-back2 c).before).before.before.before.if2.true).long,
+      (c.place-placed.ensures.trades_back c.if-told-ne0.true).long,
     )
 
-returns-2 : tie.Need-returns-2
+returns-2 : tie.Need-returns-then-told-ne0
 returns-2 c =
-    let after = c.before.before.before.before.before.before.before.before.before.before.before.before.before.before.before.before.before.before.before.before.before.before.before.before in
-    let placed = after.place.ensures in
-    let some = c.before.before.before.before.before.before.before.before.before.before.before.before.before.before.before.if2.true in
-    let queue = after.before.before.before.before.before.before.before.before.before.before.before.before.before.before.before.before.before.place_of.ensures in
+    let placed = c.place-placed.ensures in
+    let some = c.if-told-ne0.true in
+    let queue = c.place_of-queue.ensures in
     quote_undone placed some
     (undone (placed.buys_back some) (rw queue refl) refl
-    after.before.before.before.before.before.before.before.before.before.before.before.before.before.keep.ensures
-    c.before.before.before.before.before.before.before.before.before.before.before.before.put_back.ensures)
-    (undone (placed.sells_back some) (rw queue refl) refl after.before.before.before.before.before.before.before.before.before.keep2.ensures
-    c.before.before.before.before.before.before.before.put-back2.ensures)
+    c.keep.ensures
+    c.put_back.ensures)
+    (undone (placed.sells_back some) (rw queue refl) refl c.keep-2.ensures
+    c.put_back-then-told-ne0.ensures)
     (undone (placed.trades_back some)
-    after.before.before.before.before.before.before.before.before.before.before.before.before.before.before.before.before.first_made.ensures
-    refl after.before.before.before.before.before.keep3.ensures c.before.before.put-back3.ensures)
+    c.first_made-recorded.ensures
+    refl c.keep-3.ensures c.put_back-then-told-ne0-2.ensures)
 
-pub trade-spec : {M : Type 1} → statement M
-trade-spec = tie.close (tie.spec
-    (λ c κs. let start = c.before.before.before in ((formed start.requires).contracts_high, (formed start.requires).accounts_high))  -- early-code-requires
+pub trade_spec : {M : Type 1} → statement M
+trade_spec = tie.close (tie.spec
+    (λ c κs. ((formed c.requires).contracts_high, (formed c.requires).accounts_high))  -- early_code-early-requires
     (λ c κs. search rules)  -- refused-requires
     returns
-    (λ c κs. let start = Begun c in contract_low start.pre _ _ (named c))  -- place-of-requires
-    (λ c. search rules)  -- mul-queue
-    (λ c κs. let start = Begun c.before in (formed start.pre).trades_high)  -- first-made-requires
-    (λ c. search rules)  -- slice-aggregate-keep
+    (λ c κs. contract_low c.requires _ _ (named c))  -- place_of-queue-requires
+    (λ c. search rules)  -- overflow_mul-queue
+    (λ c κs. (formed c.requires).trades_high)  -- first_made-recorded-requires
+    (λ c. search rules)  -- slice_bounds-keep-end
     keep-requires
-    (λ c. search rules)  -- slice-aggregate-keep-2
+    (λ c. search rules)  -- slice_bounds-keep-end-2
     keep-requires-2
-    (λ c. search rules)  -- slice-aggregate-keep-3
+    (λ c. search rules)  -- slice_bounds-keep-end-3
     keep-requires-3
-    (λ c κs. let start = Begun (First-made (Keep2 c)).before.before in (start.pre, none (First-made (Keep2 c)).before.before))  -- place-requires
-    (λ c. omega (arith, (Keep2 (Placed c).before).before.before.before.bids2.given))  -- slice-aggregate-put-back
+    (λ c κs. (c.requires, none c.before.before.before.before.before.before.before.before.before.before.before.before.before.before))  -- place-placed-requires
+    (λ c. omega (arith, c.bids-2-1.given))  -- slice_bounds-put_back-end
     put-back-requires
-    (λ c. search rules)  -- slice-aggregate-put-back-2
+    (λ c. search rules)  -- slice_bounds-put_back-end-then-told-ne0
     put-back-requires-2
-    (λ c. search rules)  -- slice-aggregate-put-back-3
+    (λ c. search rules)  -- slice_bounds-put_back-end-then-told-ne0-2
     put-back-requires-3
-    (λ c. search rules)  -- same-length
-    (λ c. search rules)  -- same-length-2
-    (λ c. search rules)  -- same-length-3
+    (λ c. search rules)  -- shape_of-buys-then-told-ne0
+    (λ c. search rules)  -- shape_of-sells-then-told-ne0
+    (λ c. search rules)  -- shape_of-trades-then-told-ne0
     returns-2
-    (λ c. search rules)  -- same-length-4
-    (λ c. search rules)  -- same-length-5
-    (λ c. search rules)  -- same-length-6
-    (λ c. (Place c).place.ensures.accepted c.if2.false))  -- returns-3
+    (λ c. search rules)  -- shape_of-buys-else-told-ne0
+    (λ c. search rules)  -- shape_of-sells-else-told-ne0
+    (λ c. search rules)  -- shape_of-trades-else-told-ne0
+    (λ c. c.place-placed.ensures.accepted c.if-told-ne0.false))  -- returns-3
