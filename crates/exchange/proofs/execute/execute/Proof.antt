@@ -6,19 +6,15 @@ use Rattle.exchange.proofs.Responses.{executed_as}
 use Rattle.exchange.proofs.execute.execute.Statement.{statement}
 use Rattle.exchange.proofs.execute.execute.Tie as tie
 
--- back to the call of `execute-record`
-abbrev Execute-record : tie.After-slice-known6 → tie.After-execute-record
-Execute-record c = c.before.before.before.before.before.before
-
 returns : tie.Need-returns
-returns c = executed_as (ap command_of (Execute-record c).before.before.before.before.record-at.ensures) (Execute-record c).execute-record.ensures
+returns c = executed_as (ap command_of c.record_at-given.ensures) c.execute_record.ensures
 
-pub execute-spec : {M : Type 1} → statement M
-execute-spec = tie.close (tie.spec
-    (λ c. search rules)  -- slice-aggregate-record-at
-    (λ c κs. search rules)  -- record-at-requires
-    (λ c κs. search rules)  -- execute-record-requires
-    (λ c. search rules)  -- same-length
-    (λ c. search rules)  -- same-length-2
-    (λ c. search rules)  -- same-length-3
+pub execute_spec : {M : Type 1} → statement M
+execute_spec = tie.close (tie.spec
+    (λ c. search rules)  -- slice_bounds-record_at-end
+    (λ c κs. search rules)  -- record_at-given-requires
+    (λ c κs. search rules)  -- execute_record-requires
+    (λ c. search rules)  -- shape_of-buys
+    (λ c. search rules)  -- shape_of-sells
+    (λ c. search rules)  -- shape_of-trades
     returns)

@@ -7,40 +7,23 @@ use Rattle.exchange.proofs.Responses.{executed, executed_refused}
 use Rattle.exchange.proofs.execute.respond.Statement.{statement}
 use Rattle.exchange.proofs.execute.respond.Tie as tie
 
--- back to the start
-abbrev Begun-from-plain : tie.After-plain → tie.Start
-Begun-from-plain c = c.before.before.before.before.before.before
-
--- back to the start
-abbrev Begun : tie.After-step-arg3 → tie.Start
-Begun c = c.before.before.before.before.before.before.before
-
--- back to the test `!formed`
-abbrev Past-formed : tie.After-slice-known6 → tie.Else1
-Past-formed c = c.before.before.before.before.before.before.before.before.before.before
-
--- back to the call of `step`
-abbrev Step : tie.After-slice-known6 → tie.After-step
-Step c = c.before.before.before.before.before.before
-
-returns : tie.Need-returns
+returns : tie.Need-returns-then-not-formed
 returns c =
-    executed_refused _ _ _ _ _ c.before.refused.result (sym (Begun-from-plain c).requires ∙ not-true (Begun-from-plain c).args.formed
-    c.before.before.if1.true) c.before.refused.ensures c.plain.ensures
+    executed_refused _ _ _ _ _ c.refused.result (sym c.requires ∙ c.if-not-formed.true) c.refused.ensures c.plain.ensures
 
 step-requires : tie.Need-step-requires
-step-requires c κs = record { declared = declared (Begun c).well_formed.1.0; formed = sym (Begun c).requires ∙ not-false (Begun c).args.formed c.before.before.before.if1.false }
+step-requires c κs = record { declared = declared c.well_formed.1.0; formed = sym c.requires ∙ c.if-not-formed.false }
 
-returns-2 : tie.Need-returns-2
-returns-2 c = executed _ _ (sym (Begun (Step c).before).requires ∙ not-false (Begun (Step c).before).args.formed (Past-formed c).if1.false) (Step c).step.ensures
+returns-2 : tie.Need-returns
+returns-2 c = executed _ _ (sym c.requires ∙ c.if-not-formed.false) c.step.ensures
 
-pub respond-spec : {M : Type 1} → statement M
-respond-spec = tie.close (tie.spec
+pub respond_spec : {M : Type 1} → statement M
+respond_spec = tie.close (tie.spec
     (λ c κs. search rules)  -- refused-requires
     (λ c κs. search rules)  -- plain-requires
     returns
     step-requires
-    (λ c. search rules)  -- same-length
-    (λ c. search rules)  -- same-length-2
-    (λ c. search rules)  -- same-length-3
+    (λ c. search rules)  -- shape_of-buys
+    (λ c. search rules)  -- shape_of-sells
+    (λ c. search rules)  -- shape_of-trades
     returns-2)

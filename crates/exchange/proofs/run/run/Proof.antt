@@ -7,26 +7,16 @@ use Rattle.exchange.proofs.Runs.{ran_is, refused_ran}
 use Rattle.exchange.proofs.run.run.Statement.{statement}
 use Rattle.exchange.proofs.run.run.Tie as tie
 
-abbrev start : tie.After-well-formed → tie.Start
-start c =
-    let lent = c.before.before.before.before in
-    lent.before.before.before.before
+returns : tie.Need-returns-then-not-well_formed
+returns c = refused_ran _ (declared c.well_formed.0) _ (sym c.well_formed-2.ensures ∙ c.if-not-well_formed.true)
 
-returns : tie.Need-returns
-returns c = refused_ran _ (declared (start c.before).well_formed.0) _ (sym c.before.well-formed-2.ensures ∙ not-true c.before.well-formed-2.result c.if1.true)
-
-run-through-requires : tie.Need-run-through-requires
+run-through-requires : tie.Need-run_through-requires
 run-through-requires c κs =
-    let passed = c.before.before.before in
-    let tested = passed.before in
-    record { declared = declared (start tested).well_formed.0; formed = sym tested.well-formed-2.ensures ∙ not-false tested.well-formed-2.result passed.if1.false }
+    record { declared = declared c.well_formed.0; formed = sym c.well_formed-2.ensures ∙ c.if-not-well_formed.false }
 
-returns-2 : tie.Need-returns-2
+returns-2 : tie.Need-returns
 returns-2 c =
-    let back = c.before.before.before.before in
-    let ran = back.before.before in
-    let passed = ran.before.before.before.before in
-    ran_is _ (declared (start passed.before).well_formed.0) _ ran.run-through.ensures
+    ran_is _ (declared c.well_formed.0) _ c.run_through.ensures
 
 pub run_spec : {M : Type 1} → statement M
 run_spec = tie.close (tie.spec

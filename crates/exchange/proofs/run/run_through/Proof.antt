@@ -15,174 +15,130 @@ use Rattle.exchange.proofs.Runs.{Running, running_none, running_formed, running_
 use Rattle.exchange.proofs.run.run_through.Statement.{statement}
 use Rattle.exchange.proofs.run.run_through.Tie as tie
 
-abbrev invariant-loop : tie.invariant-loop
+abbrev invariant-loop : tie.invariant-loop-k
 invariant-loop buys₀ sells₀ trades₀ bytes n current₀ k₀ buys sells trades current k = (k ≤ n) × Running current₀ buys₀ sells₀ trades₀ bytes current buys sells trades k
 
-abbrev decreases-loop : tie.decreases-loop
+abbrev decreases-loop : tie.decreases-loop-k
 decreases-loop buys₀ sells₀ trades₀ bytes n current₀ k₀ buys sells trades current k = n - k
 
 whole : (n : ℕ) → n / command_width * command_width ≤ n
 whole n = div-mul-le_self n command_width
 
--- ---- places by their names
-
-abbrev start : tie.At-loop invariant-loop decreases-loop → tie.Start invariant-loop decreases-loop
-start c =
-    let known = c.before in
-    known.before.before.before.before
-
--- from what was decided to the command, and to the turn
-abbrev command : tie.After-decide invariant-loop decreases-loop → tie.After-command-of invariant-loop decreases-loop
-command c =
-    let who = c.before.before.before.before in
-    who.before.before
-
-abbrev turn : tie.After-decide invariant-loop decreases-loop → tie.In-loop invariant-loop decreases-loop
-turn c = (command c).before.before
-
--- from the lent sells to what was decided
-abbrev decided : tie.After-slice-known5 invariant-loop decreases-loop → tie.After-decide invariant-loop decreases-loop
-decided c = c.before.before.before.before
-
-few : (c : tie.In-loop invariant-loop decreases-loop) → c.before.loop.k + 1 < 2 ^ max_resting
-few c = omega (arith, whole (length (start c.before).args.bytes.now))
+few : (c : tie.In-loop-k invariant-loop decreases-loop) → c.loop-k.k + 1 < 2 ^ max_resting
+few c = omega (arith, whole (length c.args.bytes.now))
 
 -- ---- the needs
 
-decide-requires : tie.Need-decide-requires invariant-loop decreases-loop
+decide-requires : tie.Need-decide-decision-requires invariant-loop decreases-loop
 decide-requires c κs =
-    let named = c.before.before.before.before in
-    let here = named.before.before.before in
-    (running_formed here.before.loop.invariant.1, held_at_lem here.before.loop.current named.before.command_of_lem.result named.account_place_lem.ensures)
+    (running_formed c.loop-k.invariant.1, held_at_lem c.loop-k.current c.command_of-command.result c.account_place-a.ensures)
 
-loop-again : tie.Need-loop-preserved invariant-loop decreases-loop
+loop-again : tie.Need-loop-k-preserved-in-Nothing invariant-loop decreases-loop
 loop-again c =
-    let known = decided c.before.before in
-    let here = turn known in (
-      omega (arith, here.loop-test.taken),
-      running_on here.before.loop.inv.1 ((command known).command_of_lem.ensures ∙ ap command_of (command known).before.record-at.ensures)
-          (nothing_left known.decide.ensures c.enum_told.given.1)
-          known.decide.kept.1.1.0 known.decide.kept.1.1.1.0 refl,
+    (
+      omega (arith, c.loop-k-test.true),
+      running_on c.loop-k.invariant.1 (c.command_of-command.ensures ∙ ap command_of c.record_at-record.ensures)
+          (nothing_left c.decide-decision.ensures c.in-Nothing.is)
+          c.decide-decision.auto.buys c.decide-decision.auto.sells refl,
     )
 
-loop-again-2 : tie.Need-loop-preserved-2 invariant-loop decreases-loop
+loop-again-2 : tie.Need-loop-k-preserved-in-Balance invariant-loop decreases-loop
 loop-again-2 c =
-    let told = c.before.before in
-    let known = decided told.before.before in
-    let here = turn known in (
-      omega (arith, here.loop-test.taken),
-      running_on here.before.loop.inv.1 ((command known).command_of_lem.ensures ∙ ap command_of (command known).before.record-at.ensures)
-          (balance_left known.decide.ensures told.update.given.1 (search (rules, c.before.known-told.given)))
-          known.decide.kept.1.1.0 known.decide.kept.1.1.1.0 refl,
+    (
+      omega (arith, c.loop-k-test.true),
+      running_on c.loop-k.invariant.1 (c.command_of-command.ensures ∙ ap command_of c.record_at-record.ensures)
+          (balance_left c.decide-decision.ensures c.in-Balance.is (search (rules, c.in-Balance.known_told-1-own.given)))
+          c.decide-decision.auto.buys c.decide-decision.auto.sells refl,
     )
 
-carry-out-requires : tie.Need-carry-out-requires invariant-loop decreases-loop
+carry-out-requires : tie.Need-carry_out-t-requires invariant-loop decreases-loop
 carry-out-requires c κs =
-    let told = c.before.before.before.before in
-    pending_ready (decided told.before.before).decide.ensures told.update3.given.1
+    pending_ready c.decide-decision.ensures c.in-Left.is
 
-carry-whole-requires : tie.Need-carry-whole-requires invariant-loop decreases-loop
+carry-whole-requires : tie.Need-carry_whole-r-requires invariant-loop decreases-loop
 carry-whole-requires c κs =
-    let told = c.before.before.before.before in
-    let known = decided told.before.before in
-    whole_ready known.decide.ensures told.update4.given.1 (running_formed (turn known).before.loop.inv.1)
+    whole_ready c.decide-decision.ensures c.in-Whole.is (running_formed c.loop-k.invariant.1)
 
--- from the state that is left to what was decided
-abbrev known-left : tie.After-current invariant-loop decreases-loop → tie.After-decide invariant-loop decreases-loop
-known-left c =
-    let back = c.before.before.before.before in
-    let done = back.before.before.before in
-    let asked = done.before.before.before.before in
-    decided asked.before.before.before
-
-loop-again-3 : tie.Need-loop-preserved-3 invariant-loop decreases-loop
+loop-again-3 : tie.Need-loop-k-preserved-in-Whole invariant-loop decreases-loop
 loop-again-3 c =
-    let back = c.before.before.before.before in
-    let done = back.before.before.before in
-    let asked = done.before.before.before.before in
-    let told = asked.before in
-    let known = known-left c in
-    let here = turn known in (
-      omega (arith, here.loop-test.taken),
-      running_on here.before.loop.inv.1 ((command known).command_of_lem.ensures ∙ ap command_of (command known).before.record-at.ensures)
-          (whole_responded known.decide.ensures told.update4.given.1 done.carry-whole.ensures).memory
-          (done.carry-whole.auto.1.0 ∙ known.decide.kept.1.1.0) (done.carry-whole.auto.1.1.0 ∙ known.decide.kept.1.1.1.0) done.carry-whole.auto.1.1.1.0,
+    (
+      omega (arith, c.loop-k-test.true),
+      running_on c.loop-k.invariant.1 (c.command_of-command.ensures ∙ ap command_of c.record_at-record.ensures)
+          (whole_responded c.decide-decision.ensures c.in-Whole.is c.carry_whole-r.ensures).memory
+          (c.carry_whole-r.auto.buys ∙ c.decide-decision.auto.buys) (c.carry_whole-r.auto.sells ∙ c.decide-decision.auto.sells) c.carry_whole-r.auto.trades,
     )
 
 -- ---- where the contract is left to be written
 
-joined : (c : tie.At-match-branch invariant-loop decreases-loop) → let known = decided c.before in
-    let here = (turn known).before.loop in
-    Joined here.current here.buys here.sells here.trades (command known).command_of_lem.result c.match.current c.match.listed c.match.buys c.match.sells c.match.trades
+joined : (c : tie.Joined-update invariant-loop decreases-loop) → let here = c.loop-k in
+    Joined here.current here.buys here.sells here.trades c.command_of-command.result c.match-update.current c.match-update.listed c.match-update.buys c.match-update.sells c.match-update.trades
 joined c =
-    let known = (decided c.before).decide.ensures in
+    let known = c.decide-decision.ensures in
     ⊎_elim
-    (λ l. listing_joined known l.1.given.1 l.6 l.7 l.3 l.4 l.5)
-    (λ p. pending_joined known p.1.given.1 p.6.ensures p.18 p.19 p.15 p.16 p.17)
-    c.match.branch
+    (λ l. listing_joined known l.in-Listing.is l.current-is l.listed-is l.buys-is l.sells-is l.trades-is)
+    (λ p. pending_joined known p.in-Left.is p.carry_out-t.ensures p.current-is p.listed-is p.buys-is p.sells-is p.trades-is)
+    c.match-update.branch-raw
 
-buys_kept : (c : tie.At-match-branch invariant-loop decreases-loop) → length c.match.buys ≡ length (turn (decided c.before)).before.loop.buys
+buys_kept : (c : tie.Joined-update invariant-loop decreases-loop) → length c.match-update.buys ≡ length c.loop-k.buys
 buys_kept c =
-    let known = (decided c.before).decide.kept in
-    ⊎_elim (λ l. ap length l.3 ∙ known.1.1.0) (λ p. ap length p.15 ∙ p.6.kept.1.0 ∙ known.1.1.0) c.match.branch
+    let known = c.decide-decision.auto in
+    ⊎_elim (λ l. ap length l.buys-is ∙ known.buys) (λ p. ap length p.buys-is ∙ p.carry_out-t.auto.buys ∙ known.buys) c.match-update.branch-raw
 
-sells_kept : (c : tie.At-match-branch invariant-loop decreases-loop) → length c.match.sells ≡ length (turn (decided c.before)).before.loop.sells
+sells_kept : (c : tie.Joined-update invariant-loop decreases-loop) → length c.match-update.sells ≡ length c.loop-k.sells
 sells_kept c =
-    let known = (decided c.before).decide.kept in
-    ⊎_elim (λ l. ap length l.4 ∙ known.1.1.1.0) (λ p. ap length p.16 ∙ p.6.kept.1.1.0 ∙ known.1.1.1.0) c.match.branch
+    let known = c.decide-decision.auto in
+    ⊎_elim (λ l. ap length l.sells-is ∙ known.sells) (λ p. ap length p.sells-is ∙ p.carry_out-t.auto.sells ∙ known.sells) c.match-update.branch-raw
 
-trades_kept : (c : tie.At-match-branch invariant-loop decreases-loop) → length c.match.trades ≡ length (turn (decided c.before)).before.loop.trades
-trades_kept c = ⊎_elim (λ l. ap length l.5) (λ p. ap length p.17 ∙ p.6.kept.1.1.1.0) c.match.branch
+trades_kept : (c : tie.Joined-update invariant-loop decreases-loop) → length c.match-update.trades ≡ length c.loop-k.trades
+trades_kept c = ⊎_elim (λ l. ap length l.trades-is) (λ p. ap length p.trades-is ∙ p.carry_out-t.auto.trades) c.match-update.branch-raw
 
-loop-again-4 : tie.Need-loop-preserved-4 invariant-loop decreases-loop
+loop-again-4 : tie.Need-loop-k-preserved invariant-loop decreases-loop
 loop-again-4 c =
-    let joint = c.before in
-    let known = decided joint.before in
-    let here = turn known in (
-      omega (arith, here.loop-test.taken),
-      running_on here.before.loop.inv.1 ((command known).command_of_lem.ensures ∙ ap command_of (command known).before.record-at.ensures) (joined joint).left
-          (buys_kept joint) (sells_kept joint) (trades_kept joint),
+    (
+      omega (arith, c.loop-k-test.true),
+      running_on c.loop-k.invariant.1 (c.command_of-command.ensures ∙ ap command_of c.record_at-record.ensures) (joined c.before).left
+          (buys_kept c.before) (sells_kept c.before) (trades_kept c.before),
     )
 
-pub run-through-spec : {M : Type 1} → statement M
-run-through-spec = tie.close (tie.spec
+pub run_through_spec : {M : Type 1} → statement M
+run_through_spec = tie.close (tie.spec
     invariant-loop
     decreases-loop
-    (λ c. (omega arith, running_none _ c.before.before.before.before.requires))  -- loop-holds
-    (λ c. omega (arith, whole (length (start c.before).args.bytes.now)))  -- mul-record-at
-    (λ c κs. omega (arith, whole (length (start c.before).args.bytes.now)))  -- record-at-requires
+    (λ c. (omega arith, running_none _ c.requires))  -- loop-holds
+    (λ c. omega (arith, whole (length c.args.bytes.now)))  -- overflow_mul-k
+    (λ c κs. omega (arith, whole (length c.args.bytes.now)))  -- record_at-record-requires
     (λ c κs. search rules)
-    (λ c. record { fits = few c.before.before })  -- add-k
+    (λ c. record { fits = few c.before.before })  -- overflow_add-k
     (λ c κs. search rules)
-    (λ c. omega (arith, place_fits (running_formed c.before.before.before.before.loop.invariant.1) (account_number c.before.command_of_lem.result) c.account_place_lem.ensures))  -- mul-who
-    (λ c. place_fits (running_formed c.before.before.before.before.loop.invariant.1) (account_number c.before.command_of_lem.result) c.account_place_lem.ensures)  -- element-copy-out-who
+    (λ c. omega (arith, place_fits (running_formed c.loop-k.invariant.1) (account_number c.command_of-command.result) c.account_place-a.ensures))  -- offset_bounds-current-a
+    (λ c. place_fits (running_formed c.loop-k.invariant.1) (account_number c.command_of-command.result) c.account_place-a.ensures)  -- bounds-current-a
     decide-requires
     (λ c. search rules)
-    (λ c. omega (arith, (turn (decided c.before.before)).loop-test.taken))  -- loop-less
+    (λ c. omega (arith, c.loop-k-test.true))  -- loop-less
     loop-again
     (λ c. search rules)
-    (λ c. let told = c.before in omega (arith, balance_place (decided told.before.before).decide.ensures told.update.given.1))  -- mul-holder
-    (λ c. let told = c.before in balance_place (decided told.before.before).decide.ensures told.update.given.1)  -- element-copy-out-holder
-    (λ c. let told = c.before.before in omega (arith, balance_place (decided told.before.before).decide.ensures told.update.given.1))  -- mul-holder-2
-    (λ c. let told = c.before.before in balance_place (decided told.before.before).decide.ensures told.update.given.1)  -- element-set-from-holder
-    (λ c. let told = c.before.before in omega (arith, (turn (decided told.before.before)).loop-test.taken))  -- loop-less-2
+    (λ c. omega (arith, balance_place c.decide-decision.ensures c.in-Balance.is))  -- offset_bounds-current-place
+    (λ c. balance_place c.decide-decision.ensures c.in-Balance.is)  -- bounds-current-place
+    (λ c. omega (arith, balance_place c.decide-decision.ensures c.in-Balance.is))  -- offset_bounds-current-place-in-Balance
+    (λ c. balance_place c.decide-decision.ensures c.in-Balance.is)  -- bounds-current-place-in-Balance
+    (λ c. omega (arith, c.loop-k-test.true))  -- loop-less-2
     loop-again-2
     (λ c. search rules)
     (λ c. search rules)
     carry-out-requires
     (λ c. search rules)
     carry-whole-requires
-    (λ c. omega (arith, (turn (known-left c)).loop-test.taken))  -- loop-less-3
+    (λ c. omega (arith, c.loop-k-test.true))  -- loop-less-3
     loop-again-3
-    (λ c. omega (arith, (joined c.before).place))  -- mul-terms
-    (λ c. (joined c.before).place)  -- element-set-from-terms
-    (λ c. omega (arith, (joined c.before).place))  -- mul-current
-    (λ c. (joined c.before).place)  -- element-write-current
-    (λ c. omega (arith, (joined c.before).place))  -- mul-current-2
-    (λ c. (joined c.before).place)  -- element-write-current-2
-    (λ c. let joint = c.before in omega (arith, (turn (decided joint.before)).loop-test.taken))  -- loop-less-4
+    (λ c. omega (arith, (joined c.before).place))  -- offset_bounds-current-c
+    (λ c. (joined c.before).place)  -- bounds-current-c
+    (λ c. omega (arith, (joined c.before).place))  -- offset_bounds-current-c-in-loop-k
+    (λ c. (joined c.before).place)  -- bounds-current-c-in-loop-k
+    (λ c. omega (arith, (joined c.before).place))  -- offset_bounds-current-c-in-loop-k-2
+    (λ c. (joined c.before).place)  -- bounds-current-c-in-loop-k-2
+    (λ c. omega (arith, c.loop-k-test.true))  -- loop-less-4
     loop-again-4
     (λ c. search rules)
     (λ c. search rules)
     (λ c. search rules)
-    (λ c. running_done c.before.loop.invariant.1 (omega (arith, c.loop-test.false))))  -- returns
+    (λ c. running_done c.loop-k.invariant.1 (omega (arith, c.loop-k-test.false))))  -- returns

@@ -13,21 +13,21 @@ use Rattle.rules.specs.Exchange.{no_contract}
 use Rattle.exchange.proofs.settling.all_closed.Statement.{statement}
 use Rattle.exchange.proofs.settling.all_closed.Tie as tie
 
-abbrev invariant-loop : tie.invariant-loop
+abbrev invariant-loop : tie.invariant-loop-c
 invariant-loop n contracts c₀ c = (c ≤ n) × (all (λ k. eqb (get_or contracts k no_contract).phase closed) c ≡ true)
 
-abbrev decreases-loop : tie.decreases-loop
+abbrev decreases-loop : tie.decreases-loop-c
 decreases-loop n contracts c₀ c = n - c
 
-pub all-closed-spec : {M : Type 1} → statement M
-all-closed-spec = tie.close (tie.spec
+pub all_closed_spec : {M : Type 1} → statement M
+all_closed_spec = tie.close (tie.spec
     invariant-loop
     decreases-loop
     (λ c. (omega arith, all_none _))  -- loop-holds
-    (λ c. search rules)  -- mul-contract
-    (λ c. omega arith)  -- array-copy-out-contract
-    (λ c. sym (all_stop _ _ _ c.before.before.before.loop-test.true (ne_eqb _ _ c.if1.true)))  -- returns
-    (λ c. omega arith)  -- add-c
+    (λ c. search rules)  -- offset_bounds-contracts-c
+    (λ c. omega arith)  -- bounds-contracts-c
+    (λ c. sym (all_stop _ _ _ c.loop-c-test.true (ne_eqb _ _ c.if-contract-ne-CLOSED.true)))  -- returns-then-contract-ne-CLOSED
+    (λ c. omega arith)  -- overflow_add-c
     (λ c. omega arith)  -- loop-less
-    (λ c. (omega arith, all_more _ _ c.before.before.before.before.loop.invariant.1 (eq-eqb _ _ c.if1.false)))  -- loop-again
-    (λ c. let e : c.before.loop.c ≡ c.before.before.args.n = omega arith in rw (← e) (sym c.before.loop.invariant.1)))  -- returns-2
+    (λ c. (omega arith, all_more _ _ c.loop-c.invariant.1 (eq-eqb _ _ c.if-contract-ne-CLOSED.false)))  -- loop-again
+    (λ c. let e : c.loop-c.c ≡ c.args.n = omega arith in rw (← e) (sym c.loop-c.invariant.1)))  -- returns-2

@@ -4,35 +4,24 @@ use Rattle.exchange.proofs.Decided.{done_as, pending_as}
 use Rattle.exchange.proofs.step.carry_out.Statement.{statement}
 use Rattle.exchange.proofs.step.carry_out.Tie as tie
 
-abbrev start : tie.After-slice-known3 → tie.Start
-start c = c.before.before.before
-
 trade-requires : tie.Need-trade-requires
 trade-requires c κs =
-    let told = c.before.before.before.before in
-    pending_as _ _ _ _ told.before.pending.given.1 (start told.before.before.before).requires
+    pending_as _ _ _ _ c.in-Trading.is c.requires
 
-leave-auction-requires : tie.Need-leave-auction-requires
+leave-auction-requires : tie.Need-leave_auction-requires
 leave-auction-requires c κs =
-    let told = c.before.before.before in
-    pending_as _ _ _ _ told.before.pending2.given.1 (start told.before.before.before).requires
+    pending_as _ _ _ _ c.in-Matching.is c.requires
 
-returns : tie.Need-returns
+returns : tie.Need-returns-in-Trading
 returns c =
-    let back = c.before.before.before.before in
-    let done = back.before.before in
-    let called = done.before.before.before.before in
-    done_as _ _ _ _ called.before.before.pending.given.1 _ _ _ done.trade.ensures
+    done_as _ _ _ _ c.in-Trading.is _ _ _ c.trade.ensures
 
-returns-2 : tie.Need-returns-2
+returns-2 : tie.Need-returns-in-Matching
 returns-2 c =
-    let back = c.before.before.before.before in
-    let done = back.before.before in
-    let called = done.before.before.before in
-    done_as _ _ _ _ called.before.before.pending2.given.1 _ _ _ done.leave-auction.ensures
+    done_as _ _ _ _ c.in-Matching.is _ _ _ c.leave_auction.ensures
 
-pub carry-out-spec : {M : Type 1} → statement M
-carry-out-spec = tie.close (tie.spec
+pub carry_out_spec : {M : Type 1} → statement M
+carry_out_spec = tie.close (tie.spec
     (λ c. search rules) trade-requires
     (λ c. search rules) leave-auction-requires
     (λ c. search rules) (λ c. search rules) (λ c. search rules) returns

@@ -5,8 +5,8 @@ use Rattle.exchange.proofs.Decided.{plain_left, settled_left}
 use Rattle.exchange.proofs.step.carry_whole.Statement.{statement}
 use Rattle.exchange.proofs.step.carry_whole.Tie as tie
 
-pub carry-whole-spec : {M : Type 1} → statement M
-carry-whole-spec = tie.close (tie.spec
+pub carry_whole_spec : {M : Type 1} → statement M
+carry_whole_spec = tie.close (tie.spec
     (λ c. search rules) (λ c κs. search rules) (λ c κs. search rules)
     (λ c. search rules) (λ c κs. search rules)
     (λ c. search rules) (λ c. search rules) (λ c. search rules) (λ c. search (plain_left, c.before.before.before.before))

@@ -7,41 +7,26 @@ use Rattle.exchange.proofs.step.decide.Tie as tie
 
 deposit-requires : tie.Need-deposit-requires
 deposit-requires c κs =
-    let told = c.before.before.before in
-    let matched = told.before in
-    let start = matched.before.before.before.before in
-    (start.requires.0, held_as start.args.state told.command.given.1 start.requires.1)
+    (c.requires.0, held_as c.args.state c.in-Deposit.is c.requires.1)
 
 withdraw-requires : tie.Need-withdraw-requires
 withdraw-requires c κs =
-    let told = c.before.before.before in
-    let matched = told.before in
-    let start = matched.before.before.before.before in
-    (start.requires.0, held_as start.args.state told.command2.given.1 start.requires.1)
+    (c.requires.0, held_as c.args.state c.in-Withdraw.is c.requires.1)
 
 insert-requires : tie.Need-insert-requires
 insert-requires c κs =
-    let told = c.before.before.before in
-    let matched = told.before in
-    let start = matched.before.before.before.before in
-    (start.requires.0, held_as start.args.state told.command3.given.1 start.requires.1)
+    (c.requires.0, held_as c.args.state c.in-Insert.is c.requires.1)
 
 quote-requires : tie.Need-quote-requires
 quote-requires c κs =
-    let told = c.before.before.before in
-    let matched = told.before in
-    let start = matched.before.before.before.before in
-    (start.requires.0, held_as start.args.state told.command7.given.1 start.requires.1)
+    (c.requires.0, held_as c.args.state c.in-Quote.is c.requires.1)
 
-change-requires : tie.Need-change-requires-2
+change-requires : tie.Need-change-requires-in-Change
 change-requires c κs =
-    let told = c.before.before.before in
-    let matched = told.before in
-    let start = matched.before.before.before.before in
-    (start.requires.0, held_as start.args.state told.command8.given.1 start.requires.1)
+    (c.requires.0, held_as c.args.state c.in-Change.is c.requires.1)
 
-pub decide-spec : {M : Type 1} → statement M
-decide-spec = tie.close (tie.spec
+pub decide_spec : {M : Type 1} → statement M
+decide_spec = tie.close (tie.spec
     (λ c. search rules) (λ c κs. search rules)
     (λ c. search rules) deposit-requires
     (λ c. search rules) withdraw-requires
@@ -59,6 +44,6 @@ decide-spec = tie.close (tie.spec
     (λ c. search rules) (λ c. search rules) (λ c. search (decided_as, c.before.before.before.before))
     (λ c. search rules) (λ c. search rules) (λ c. search (decided_as, c.before.before.before.before))
     (λ c. search rules) (λ c. search rules) (λ c. search decided_as)
-    (λ c. whole_decided _ c.before.enum-told2.given.1 c.left.ensures)
+    (λ c. whole_decided _ c.in-Settle.is c.left.ensures)
     (λ c. search rules) (λ c. search rules) (λ c. search (decided_as, c.before.before.before.before))
     (λ c. search rules) (λ c. search rules) (λ c. search (decided_as, c.before.before.before.before)))
