@@ -1,4 +1,6 @@
 -- `read_state` meets its contract: the refusals in their order, then the state. Assumes nothing.
+use Rattle.std.proofs.Common.{ap}
+use Rattle.std.specs.Prelude.{not}
 use mathlib.Core.Bool.{true}
 use mathlib.Core.Path.{◌≡◌}
 use Rattle.laws.specs.Tests.{passed, refused}
@@ -12,78 +14,60 @@ use borrow.Author.Rules.{rules}
 use Rattle.saving.proofs.read_state.Statement.{statement}
 use Rattle.saving.proofs.read_state.Tie as tie
 
--- from the test of the shape back to the start
-abbrev Lent : tie.After-is-shaped → tie.After-shared-slice-known
-Lent c = c.before.before.before.before
+shape_is : (c : tie.Else-not-is_shaped) → shaped c.args.file.now ≡ true
+shape_is c = passed c.is_shaped.ensures (ap not c.if-not-is_shaped.false)
 
-abbrev Begun : tie.Else1 → tie.Start
-Begun c = (Lent c.before).before
-
--- from the state that the file gives back to the counts of the file, and from the equal totals to that state
-abbrev Counted : tie.After-loaded-state → tie.After-account-count
-Counted c = c.before.before.before
-
-abbrev Formed : tie.Else4 → tie.Else3
-Formed c = c.before.before.before
-
-shape_is : (c : tie.Else1) → shaped (Begun c).args.file.now ≡ true
-shape_is c = passed c.before.is-shaped.ensures c.if1.false
-
-laid : (c : tie.After-account-count) → Laid (Begun c.before.before).args.file.now c.before.contract_count.result c.account_count.result
-laid c = shaped_laid _ _ _ c.before.contract_count.ensures c.account_count.ensures (shape_is c.before.before)
+laid : (c : tie.After-account_count-accounts) → Laid c.args.file.now c.contract_count-contracts.result c.account_count-accounts.result
+laid c = shaped_laid _ _ _ c.contract_count-contracts.ensures c.account_count-accounts.ensures (shape_is c.before.before)
 
 -- the state that the file gives
-given : (c : tie.After-loaded-state)
-    → let a = (Begun (Counted c).before.before).args in
+given : (c : tie.After-loaded_state-loaded)
+    → let a = c.args in
     Given (memory a.state a.buys.now a.sells.now a.trades.now) a.file.now
-    (Counted c).before.contract_count.result (Counted c).account_count.result c.loaded-state.result
+    c.contract_count-contracts.result c.account_count-accounts.result c.loaded_state-loaded.result
 given c =
     record {
-      shape_is = shape_is (Counted c).before.before;
-      laid = laid (Counted c);
-      declared = declared (Begun (Counted c).before.before).well_formed.1.0;
-      marks = passed c.before.before.marks-sound.ensures c.before.if2.false;
-      next_is = c.loaded-state.ensures;
+      shape_is = shape_is c.before.before.before.before.before;
+      laid = laid c.before.before.before;
+      declared = declared c.well_formed.1.0;
+      marks = passed c.marks_sound.ensures (ap not c.if-not-marks_sound.false);
+      next_is = c.loaded_state-loaded.ensures;
     }
 
-formed-is : (c : tie.Else3) → well_formed_memory (in_spare c.before.before.loaded-state.result) ≡ true
-formed-is c = passed c.before.is-formed.ensures c.if3.false
+formed-is : (c : tie.Else-not-is_formed) → well_formed_memory (in_spare c.loaded_state-loaded.result) ≡ true
+formed-is c = passed c.is_formed.ensures (ap not c.if-not-is_formed.false)
 
-returns-2 : tie.Need-returns-2
+returns-2 : tie.Need-returns-then-not-marks_sound
 returns-2 c =
-    let counted = c.before.before in
-    marks_20 _ _ (shape_is counted.before.before) (laid counted) (refused c.before.marks-sound.ensures c.if2.true)
+    marks_20 _ _ (shape_is c.before.before.before.before) (laid c.before.before) (refused c.marks_sound.ensures (ap not c.if-not-marks_sound.true))
 
-returns-4 : tie.Need-returns-4
+returns-4 : tie.Need-returns-then-not-all_equal
 returns-4 c =
-    let formed = c.before.before.before in
-    totals_30 (given formed.before.before) (formed-is formed) (refused c.before.all-equal.ensures c.if4.true)
+    totals_30 (given c.before.before.before.before.before) (formed-is c.before.before.before) (refused c.all_equal.ensures (ap not c.if-not-all_equal.true))
 
-returns-5 : tie.Need-returns-5
+returns-5 : tie.Need-returns-then-not-has_room
 returns-5 c =
-    let equal = c.before.before in
-    room_29 (given (Formed equal).before.before) (formed-is (Formed equal)) (passed equal.before.all-equal.ensures equal.if4.false)
-    (refused c.before.has_room.ensures c.if5.true)
+    room_29 (given c.before.before.before.before.before.before.before) (formed-is c.before.before.before.before.before) (passed c.all_equal.ensures (ap not c.if-not-all_equal.false))
+    (refused c.has_room.ensures (ap not c.if-not-has_room.true))
 
-returns-6 : tie.Need-returns-6
+returns-6 : tie.Need-returns
 returns-6 c =
-    let equal = c.before.before in
-    loaded_0 (given (Formed equal).before.before) (formed-is (Formed equal)) (passed equal.before.all-equal.ensures equal.if4.false)
-    (passed c.before.has_room.ensures c.if5.false)
+    loaded_0 (given c.before.before.before.before.before.before.before) (formed-is c.before.before.before.before.before) (passed c.all_equal.ensures (ap not c.if-not-all_equal.false))
+    (passed c.has_room.ensures (ap not c.if-not-has_room.false))
 
-pub read-state-spec : {M : Type 1} → statement M
-read-state-spec = tie.close (tie.spec
-    (λ c κs. search rules)  -- is-shaped-requires
-    (λ c. misshapen_20 _ _ (refused c.before.is-shaped.ensures c.if1.true))  -- returns
-    (λ c κs. shaped_long _ (shape_is c))  -- contract-count-requires
-    (λ c κs. count_ready _ _ c.contract_count.ensures (shape_is c.before))  -- account-count-requires
-    (λ c κs. laid c)  -- marks-sound-requires
+pub read_state_spec : {M : Type 1} → statement M
+read_state_spec = tie.close (tie.spec
+    (λ c κs. search rules)  -- is_shaped-requires
+    (λ c. misshapen_20 _ _ (refused c.is_shaped.ensures (ap not c.if-not-is_shaped.true)))  -- returns-then-not-is_shaped
+    (λ c κs. shaped_long _ (shape_is c))  -- contract_count-contracts-requires
+    (λ c κs. count_ready _ _ c.contract_count-contracts.ensures (shape_is c.before))  -- account_count-accounts-requires
+    (λ c κs. laid c)  -- marks_sound-requires
     returns-2
-    (λ c κs. laid c.before.before)  -- loaded-state-requires
-    (λ c κs. search rules)  -- is-formed-requires
-    (λ c. formed_20 (given c.before.before) (refused c.before.is-formed.ensures c.if3.true))  -- returns-3
-    (λ c κs. let l = laid (Counted c.before.before.before) in (l.few_accounts, l.few_contracts))  -- all-equal-requires
+    (λ c κs. laid c.before.before)  -- loaded_state-loaded-requires
+    (λ c κs. search rules)  -- is_formed-requires
+    (λ c. formed_20 (given c.before.before) (refused c.is_formed.ensures (ap not c.if-not-is_formed.true)))  -- returns-then-not-is_formed
+    (λ c κs. let l = laid c.before.before.before.before.before.before in (l.few_accounts, l.few_contracts))  -- all_equal-requires
     returns-4
-    (λ c κs. counts_are (given (Formed c).before.before))  -- has-room-requires
+    (λ c κs. counts_are (given c.before.before.before.before.before))  -- has_room-requires
     returns-5
     returns-6)

@@ -5,32 +5,32 @@ use Rattle.exports.proofs.FlagsRead.{insert_read}
 use Rattle.exports.proofs.flags.insert_flags.Statement.{statement}
 use Rattle.exports.proofs.flags.insert_flags.Tie as tie
 
-side-flag-requires : tie.Need-side-flag-requires
+side-flag-requires : tie.Need-side_flag-requires
 side-flag-requires c κs = search rules
 
-close-flag-requires : tie.Need-close-flag-requires
+close-flag-requires : tie.Need-close_flag-requires
 close-flag-requires c κs = search rules
 
-add-result : tie.Need-overflow-add-result
-add-result c = omega (arith, c.before.side-flag.ensures.1, c.close-flag.ensures.1)
+add-result : tie.Need-overflow_add-result
+add-result c = omega (arith, c.side_flag.ensures.1, c.close_flag.ensures.1)
 
-price-flag-requires : tie.Need-price-flag-requires
+price-flag-requires : tie.Need-price_flag-requires
 price-flag-requires c κs = search rules
 
-add-result-2 : tie.Need-overflow-add-result-2
-add-result-2 c = omega (arith, c.before.before.side-flag.ensures.1, c.before.close-flag.ensures.1, c.price-flag.ensures.1)
+add-result-2 : tie.Need-overflow_add-result-2
+add-result-2 c = omega (arith, c.side_flag.ensures.1, c.close_flag.ensures.1, c.price_flag.ensures.1)
 
-time-flag-requires : tie.Need-time-flag-requires
+time-flag-requires : tie.Need-time_flag-requires
 time-flag-requires c κs = search rules
 
-add-result-3 : tie.Need-overflow-add-result-3
-add-result-3 c = omega (arith, c.before.before.before.side-flag.ensures.1, c.before.before.close-flag.ensures.1, c.before.price-flag.ensures.1, c.time-flag.ensures.1)
+add-result-3 : tie.Need-overflow_add-result-3
+add-result-3 c = omega (arith, c.side_flag.ensures.1, c.close_flag.ensures.1, c.price_flag.ensures.1, c.time_flag.ensures.1)
 
 returns : tie.Need-returns
-returns c = insert_read c.before.before.before.side-flag.ensures.0 c.before.before.close-flag.ensures.0 c.before.price-flag.ensures.0 c.time-flag.ensures.0
+returns c = insert_read c.side_flag.ensures.0 c.close_flag.ensures.0 c.price_flag.ensures.0 c.time_flag.ensures.0
 
-pub insert-flags-spec : {M : Type 1} → statement M
-insert-flags-spec =
+pub insert_flags_spec : {M : Type 1} → statement M
+insert_flags_spec =
     tie.close
     (tie.spec
     side-flag-requires

@@ -8,21 +8,17 @@ use borrow.Author.Rules.{rules}
 use Rattle.saving.proofs.loading.account_over.Statement.{statement}
 use Rattle.saving.proofs.loading.account_over.Tie as tie
 
--- back to the start
-abbrev Begun : tie.After-holdings-over → tie.Start
-Begun c = c.before.before.before.before.before.before
-
 returns : tie.Need-returns
 returns c =
-    account_made _ _ _ _ (Begun c).args.room (to_z-of_z {w = w64} (record { sfits = c.before.before.before.signed.type-inv })
-    ∙ c.before.before.before.signed.ensures ∙ ap signed_of c.before.before.before.before.u64-at.ensures) c.before.before.u8-at.ensures c.holdings-over.ensures
+    account_made _ _ _ _ c.args.room (to_z-of_z {w = w64} (record { sfits = c.signed-balance.type_inv })
+    ∙ c.signed-balance.ensures ∙ ap signed_of c.u64_at.ensures) c.u8_at-mark.ensures c.holdings_over-holdings.ensures
 
-pub account-over-spec : {M : Type 1} → statement M
-account-over-spec = tie.close (tie.spec
-    (λ c κs. search rules)  -- u64-at-requires
-    (λ c κs. search rules)  -- signed-requires
-    (λ c. search rules)  -- add-u8-at
-    (λ c κs. search rules)  -- u8-at-requires
-    (λ c κs. search rules)  -- holdings-over-requires
-    (λ c. search rules)  -- cast-t10
+pub account_over_spec : {M : Type 1} → statement M
+account_over_spec = tie.close (tie.spec
+    (λ c κs. search rules)  -- u64_at-requires
+    (λ c κs. search rules)  -- signed-balance-requires
+    (λ c. search rules)  -- overflow_add-at
+    (λ c κs. search rules)  -- u8_at-mark-requires
+    (λ c κs. search rules)  -- holdings_over-holdings-requires
+    (λ c. search rules)  -- overflow_cast-result
     returns)

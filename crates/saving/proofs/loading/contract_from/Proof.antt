@@ -7,11 +7,11 @@ use Rattle.saving.proofs.loading.contract_from.Tie as tie
 
 returns : tie.Need-returns
 unfolding saved_contract
-returns c = rw (c.before.contract_at_lem.ensures, c.u32-at.ensures) refl
+returns c = rw (c.contract_at-c.ensures, c.u32_at.ensures) refl
 
-pub contract-from-spec : {M : Type 1} → statement M
-contract-from-spec = tie.close (tie.spec
-    (λ c κs. search rules)  -- contract-at-requires
-    (λ c. search rules)  -- add-u32-at
-    (λ c κs. search rules)  -- u32-at-requires
+pub contract_from_spec : {M : Type 1} → statement M
+contract_from_spec = tie.close (tie.spec
+    (λ c κs. search rules)  -- contract_at-c-requires
+    (λ c. search rules)  -- overflow_add-at
+    (λ c κs. search rules)  -- u32_at-requires
     returns)

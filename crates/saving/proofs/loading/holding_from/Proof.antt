@@ -7,11 +7,11 @@ use Rattle.saving.proofs.loading.holding_from.Tie as tie
 
 returns : tie.Need-returns
 unfolding saved_holding
-returns c = rw (c.before.u32-at.ensures, c.u32-at2.ensures) refl
+returns c = rw (c.u32_at-long.ensures, c.u32_at-short.ensures) refl
 
-pub holding-from-spec : {M : Type 1} → statement M
-holding-from-spec = tie.close (tie.spec
-    (λ c κs. search rules)  -- u32-at-requires
-    (λ c. search rules)  -- add-u32-at
-    (λ c κs. search rules)  -- u32-at-requires-2
+pub holding_from_spec : {M : Type 1} → statement M
+holding_from_spec = tie.close (tie.spec
+    (λ c κs. search rules)  -- u32_at-long-requires
+    (λ c. search rules)  -- overflow_add-at
+    (λ c κs. search rules)  -- u32_at-short-requires
     returns)

@@ -8,27 +8,22 @@ use borrow.Author.Rules.{rules}
 use Rattle.saving.proofs.loading.loaded_state.Statement.{statement}
 use Rattle.saving.proofs.loading.loaded_state.Tie as tie
 
--- back to the start
-abbrev Begun : tie.After-u32-at → tie.Start
-Begun c = c.before.before.before.before.before.before.before.before.before.before
-
 -- the array has its places
 holders : (c : tie.Start) → length c.args.state.accounts ≡ 32
 holders c = search (rules, unmapped)
 
 returns : tie.Need-returns
 returns c =
-    let start = Begun c in
-    state_made start.args.state _ _ _ start.pre (omega (arith, start.pre.few_accounts, holders start))
-    c.before.before.before.before.contracts_over.ensures c.before.before.before.accounts_over.ensures
-    c.before.before.no_orders.ensures c.before.no-orders2.ensures c.u32-at.ensures
+    state_made c.args.state _ _ _ c.requires (omega (arith, c.requires.few_accounts, holders c.before.before.before.before.before.before.before.before.before.before))
+    c.contracts_over-terms.ensures c.accounts_over-new_accounts.ensures
+    c.no_orders-buycounts.ensures c.no_orders-sellcounts.ensures c.u32_at-settlements.ensures
 
-pub loaded-state-spec : {M : Type 1} → statement M
-loaded-state-spec = tie.close (tie.spec
-    (λ c κs. search rules)  -- contracts-over-requires
-    (λ c κs. search rules)  -- accounts-over-requires
-    (λ c κs. search rules)  -- no-orders-requires
-    (λ c κs. search rules)  -- no-orders-requires-2
-    (λ c. search rules)  -- sub-u32-at
-    (λ c κs. search rules)  -- u32-at-requires
+pub loaded_state_spec : {M : Type 1} → statement M
+loaded_state_spec = tie.close (tie.spec
+    (λ c κs. search rules)  -- contracts_over-terms-requires
+    (λ c κs. search rules)  -- accounts_over-new_accounts-requires
+    (λ c κs. search rules)  -- no_orders-buycounts-requires
+    (λ c κs. search rules)  -- no_orders-sellcounts-requires
+    (λ c. search rules)  -- overflow_sub-file
+    (λ c κs. search rules)  -- u32_at-settlements-requires
     returns)

@@ -6,12 +6,12 @@ use Rattle.saving.proofs.shape.account_count.Tie as tie
 
 returns : tie.Need-returns
 unfolding saved_accounts_in
-returns c = rw (← c.before.before.requires.0) c.u32-at.ensures
+returns c = rw (← c.requires.0) c.u32_at.ensures
 
-pub account-count-spec : {M : Type 1} → statement M
-account-count-spec = tie.close (tie.spec
-    (λ c. search rules)  -- mul-u32-at
-    (λ c. search rules)  -- add-u32-at
-    (λ c κs. search rules)  -- u32-at-requires
-    (λ c. search rules)  -- cast-result
+pub account_count_spec : {M : Type 1} → statement M
+account_count_spec = tie.close (tie.spec
+    (λ c. search rules)  -- overflow_mul-contracts
+    (λ c. search rules)  -- overflow_add-contracts
+    (λ c κs. search rules)  -- u32_at-requires
+    (λ c. search rules)  -- overflow_cast-result
     returns)

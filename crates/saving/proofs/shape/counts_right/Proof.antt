@@ -5,26 +5,22 @@ use borrow.Author.Rules.{rules}
 use Rattle.saving.proofs.shape.counts_right.Statement.{statement}
 use Rattle.saving.proofs.shape.counts_right.Tie as tie
 
--- back to the start
-abbrev Begun : tie.After-u32-at2 → tie.Start
-Begun c = c.before.before.before.before.before
+returns : tie.Need-returns-then-holdings-accounts
+returns c = holdings_wrong _ _ _ c.requires _ (c.wide-holdings.ensures ∙ c.u32_at.ensures) c.if-holdings-accounts.true
 
-returns : tie.Need-returns
-returns c = holdings_wrong _ _ _ c.before.before.before.before.requires _ (c.before.wide.ensures ∙ c.before.before.u32-at.ensures) c.if1.true
+returns-2 : tie.Need-returns
+returns-2 c = one_decides _ _ _ c.requires _ (c.wide-holdings.ensures ∙ c.u32_at.ensures) c.if-holdings-accounts.false _ c.u32_at-2.ensures
 
-returns-2 : tie.Need-returns-2
-returns-2 c = one_decides _ _ _ (Begun c).requires _ (c.before.before.wide.ensures ∙ c.before.before.before.u32-at.ensures) c.before.if1.false _ c.u32-at2.ensures
-
-pub counts-right-spec : {M : Type 1} → statement M
-counts-right-spec = tie.close (tie.spec
-    (λ c. search rules)  -- mul-u32-at
-    (λ c. search rules)  -- add-u32-at
-    (λ c. search rules)  -- mul-u32-at-2
-    (λ c. search rules)  -- add-u32-at-2
-    (λ c κs. search rules)  -- u32-at-requires
-    (λ c κs. search rules)  -- wide-requires
-    (λ c. search rules)  -- mul-if1
+pub counts_right_spec : {M : Type 1} → statement M
+counts_right_spec = tie.close (tie.spec
+    (λ c. search rules)  -- overflow_mul-contracts
+    (λ c. search rules)  -- overflow_add-contracts
+    (λ c. search rules)  -- overflow_mul-accounts
+    (λ c. search rules)  -- overflow_add-contracts-2
+    (λ c κs. search rules)  -- u32_at-requires
+    (λ c κs. search rules)  -- wide-holdings-requires
+    (λ c. search rules)  -- overflow_mul-accounts-2
     returns
-    (λ c. search rules)  -- sub-u32-at
-    (λ c κs. search rules)  -- u32-at-requires-2
+    (λ c. search rules)  -- overflow_sub-file
+    (λ c κs. search rules)  -- u32_at-requires-2
     returns-2)

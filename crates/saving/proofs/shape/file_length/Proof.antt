@@ -5,13 +5,13 @@ use borrow.Author.Rules.{rules}
 use Rattle.saving.proofs.shape.file_length.Statement.{statement}
 use Rattle.saving.proofs.shape.file_length.Tie as tie
 
-pub file-length-spec : {M : Type 1} → statement M
-file-length-spec = tie.close (tie.spec
-    (λ c. search rules)  -- mul-result
-    (λ c. search rules)  -- add-result
-    (λ c. search rules)  -- mul-result-2
-    (λ c. search rules)  -- add-result-2
-    (λ c. search rules)  -- mul-result-3
-    (λ c. omega (arith, few_bytes c.args.contracts c.args.accounts c.requires.0 c.requires.1))  -- mul-result-4
-    (λ c. omega (arith, few_bytes c.args.contracts c.args.accounts c.requires.0 c.requires.1))  -- add-result-3
+pub file_length_spec : {M : Type 1} → statement M
+file_length_spec = tie.close (tie.spec
+    (λ c. search rules)  -- overflow_mul-result
+    (λ c. search rules)  -- overflow_add-result
+    (λ c. search rules)  -- overflow_mul-result-2
+    (λ c. search rules)  -- overflow_add-result-2
+    (λ c. search rules)  -- overflow_mul-result-3
+    (λ c. omega (arith, few_bytes c.args.contracts c.args.accounts c.requires.0 c.requires.1))  -- overflow_mul-result-4
+    (λ c. omega (arith, few_bytes c.args.contracts c.args.accounts c.requires.0 c.requires.1))  -- overflow_add-result-3
     (λ c. let p = few_bytes c.args.contracts c.args.accounts c.requires.0 c.requires.1 in (omega arith, omega arith)))  -- returns

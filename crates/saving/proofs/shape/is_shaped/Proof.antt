@@ -9,44 +9,40 @@ use borrow.Author.Rules.{rules}
 use Rattle.saving.proofs.shape.is_shaped.Statement.{statement}
 use Rattle.saving.proofs.shape.is_shaped.Tie as tie
 
--- back to the start
-abbrev Begun : tie.Else2 → tie.Start
-Begun c = c.before.before.before.before.before
-
 -- ---- what the two counts have shown
 
-contracts : (c : tie.Else2) → c.before.before.before.count-before.result ≡ contracts_in (Begun c).args.file.now
-contracts c = contracts_are _ c.before.before.before.count-before.ensures.0 c.before.before.if1.false
+contracts : (c : tie.Else-accounts-eq0) → c.count_before-contracts.result ≡ contracts_in c.args.file.now
+contracts c = contracts_are _ c.count_before-contracts.ensures.0 c.if-contracts-eq0.false
 
-accounts : (c : tie.Else2) → c.before.count-before2.result ≡ saved_accounts_in (Begun c).args.file.now
-accounts c = accounts_are _ c.before.before.before.count-before.ensures.0 c.before.before.if1.false refl c.before.count-before2.ensures.0 c.if2.false
+accounts : (c : tie.Else-accounts-eq0) → c.count_before-accounts.result ≡ saved_accounts_in c.args.file.now
+accounts c = accounts_are _ c.count_before-contracts.ensures.0 c.if-contracts-eq0.false refl c.count_before-accounts.ensures.0 c.if-accounts-eq0.false
 
 -- ---- the needs
 
-returns-2 : tie.Need-returns-2
-returns-2 c = no_accounts_lem _ c.before.before.before.count-before.ensures.0 c.before.before.if1.false refl c.before.count-before2.ensures.0 c.if2.true
+returns-2 : tie.Need-returns-then-accounts-eq0
+returns-2 c = no_accounts_lem _ c.count_before-contracts.ensures.0 c.if-contracts-eq0.false refl c.count_before-accounts.ensures.0 c.if-accounts-eq0.true
 
-returns-3 : tie.Need-returns-3
-returns-3 c = length_wrong _ _ _ _ (contracts c.before.before) (accounts c.before.before) c.before.file-length.ensures.0 c.if3.true
+returns-3 : tie.Need-returns-then-file-file_length
+returns-3 c = length_wrong _ _ _ _ (contracts c.before.before) (accounts c.before.before) c.file_length.ensures.0 c.if-file-file_length.true
 
-counts-right-requires : tie.Need-counts-right-requires
+counts-right-requires : tie.Need-counts_right-requires
 counts-right-requires c κs =
-    laid _ _ _ _ (contracts c.before.before) (accounts c.before.before) c.before.file-length.ensures.0 c.if3.false (omega arith) (omega arith) (omega arith) (omega arith)
+    laid _ _ _ _ (contracts c.before.before) (accounts c.before.before) c.file_length.ensures.0 c.if-file-file_length.false (omega arith) (omega arith) (omega arith) (omega arith)
 
-returns-4 : tie.Need-returns-4
+returns-4 : tie.Need-returns
 returns-4 c =
-    decided _ _ _ _ (contracts c.before.before.before) (accounts c.before.before.before) c.before.before.file-length.ensures.0
-    c.before.if3.false (omega arith) (omega arith) (omega arith) (omega arith) c.counts-right.ensures
+    decided _ _ _ _ (contracts c.before.before.before) (accounts c.before.before.before) c.file_length.ensures.0
+    c.if-file-file_length.false (omega arith) (omega arith) (omega arith) (omega arith) c.counts_right.ensures
 
-pub is-shaped-spec : {M : Type 1} → statement M
-is-shaped-spec = tie.close (tie.spec
-    (λ c κs. search rules)  -- count-before-requires
-    (λ c. no_contracts_lem _ c.before.count-before.ensures.0 c.if1.true)  -- returns
-    (λ c. search rules)  -- mul-end
-    (λ c. search rules)  -- add-end
-    (λ c κs. search rules)  -- count-before-requires-2
+pub is_shaped_spec : {M : Type 1} → statement M
+is_shaped_spec = tie.close (tie.spec
+    (λ c κs. search rules)  -- count_before-contracts-requires
+    (λ c. no_contracts_lem _ c.count_before-contracts.ensures.0 c.if-contracts-eq0.true)  -- returns-then-contracts-eq0
+    (λ c. search rules)  -- overflow_mul-end
+    (λ c. search rules)  -- overflow_add-end
+    (λ c κs. search rules)  -- count_before-accounts-requires
     returns-2
-    (λ c κs. (c.before.before.before.count-before.ensures.1, c.before.count-before2.ensures.1))  -- file-length-requires
+    (λ c κs. (c.count_before-contracts.ensures.1, c.count_before-accounts.ensures.1))  -- file_length-requires
     returns-3
     counts-right-requires
     returns-4)

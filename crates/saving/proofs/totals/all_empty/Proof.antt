@@ -10,55 +10,43 @@ use Rattle.saving.proofs.AddedUp.{is_empty, not_pre_open, some_buys, some_sells}
 use Rattle.saving.proofs.totals.all_empty.Statement.{statement}
 use Rattle.saving.proofs.totals.all_empty.Tie as tie
 
-abbrev invariant-loop : tie.invariant-loop
+abbrev invariant-loop : tie.invariant-loop-c
 invariant-loop state contracts c₀ c = (c ≤ contracts) × (all (empty_pre_open_at state) c ≡ true)
 
-abbrev decreases-loop : tie.decreases-loop
+abbrev decreases-loop : tie.decreases-loop-c
 decreases-loop state contracts c₀ c = contracts - c
 
--- back to the turn's begin
-abbrev Turn : tie.Else1 invariant-loop decreases-loop → tie.In-loop invariant-loop decreases-loop
-Turn c = c.before.before.before.before.before
-
--- back to the turn's begin
-abbrev Turn-from-met-terms : tie.Then1 invariant-loop decreases-loop → tie.In-loop invariant-loop decreases-loop
-Turn-from-met-terms c = c.before.before.before.before.before
-
-returns : tie.Need-returns invariant-loop decreases-loop
+returns : tie.Need-returns-then-terms-ne-PRE_OPEN invariant-loop decreases-loop
 returns c =
-    let turn-from-met-terms = Turn-from-met-terms c in
-    sym (all_stop _ _ _ turn-from-met-terms.loop-test.taken (not_pre_open turn-from-met-terms.before.before.args.t1 turn-from-met-terms.before.loop.c c.if1.true))
+    sym (all_stop _ _ _ c.loop-c-test.true (not_pre_open c.args.state c.loop-c.c c.if-terms-ne-PRE_OPEN.true))
 
-returns-2 : tie.Need-returns-2 invariant-loop decreases-loop
+returns-2 : tie.Need-returns-then-buycount-ne0 invariant-loop decreases-loop
 returns-2 c =
-    let turn = Turn c.before in
-    sym (all_stop _ _ _ turn.loop-test.taken (some_buys turn.before.before.args.t1 turn.before.loop.c c.if2.true))
+    sym (all_stop _ _ _ c.loop-c-test.true (some_buys c.args.state c.loop-c.c c.if-buycount-ne0.true))
 
-returns-3 : tie.Need-returns-3 invariant-loop decreases-loop
+returns-3 : tie.Need-returns-then-sellcount-ne0 invariant-loop decreases-loop
 returns-3 c =
-    let turn = Turn c.before.before in
-    sym (all_stop _ _ _ turn.loop-test.taken (some_sells turn.before.before.args.t1 turn.before.loop.c c.if3.true))
+    sym (all_stop _ _ _ c.loop-c-test.true (some_sells c.args.state c.loop-c.c c.if-sellcount-ne0.true))
 
-loop-again : tie.Need-loop-preserved invariant-loop decreases-loop
+loop-again : tie.Need-loop-c-preserved invariant-loop decreases-loop
 loop-again c =
-    let turn = Turn c.before.before in
-    (omega arith, all_more _ _ turn.before.loop.inv.1 (is_empty turn.before.before.args.t1 turn.before.loop.c c.before.before.if1.false c.before.if2.false c.if3.false))
+    (omega arith, all_more _ _ c.loop-c.invariant.1 (is_empty c.args.state c.loop-c.c c.if-terms-ne-PRE_OPEN.false c.if-buycount-ne0.false c.if-sellcount-ne0.false))
 
-pub all-empty-spec : {M : Type 1} → statement M
-all-empty-spec = tie.close (tie.spec
+pub all_empty_spec : {M : Type 1} → statement M
+all_empty_spec = tie.close (tie.spec
     invariant-loop
     decreases-loop
     (λ c. (omega arith, all_none _))  -- loop-holds
-    (λ c. omega arith)  -- mul-terms
-    (λ c. omega arith)  -- element-copy-out-terms
-    (λ c. omega arith)  -- mul-buycount
-    (λ c. omega arith)  -- element-copy-out-buycount
-    (λ c. omega arith)  -- mul-sellcount
-    (λ c. omega arith)  -- element-copy-out-sellcount
+    (λ c. omega arith)  -- offset_bounds-state-c
+    (λ c. omega arith)  -- bounds-state-c
+    (λ c. omega arith)  -- offset_bounds-state-c-in-loop-c
+    (λ c. omega arith)  -- bounds-state-c-in-loop-c
+    (λ c. omega arith)  -- offset_bounds-state-c-in-loop-c-2
+    (λ c. omega arith)  -- bounds-state-c-in-loop-c-2
     returns
     returns-2
     returns-3
-    (λ c. omega arith)  -- add-c
+    (λ c. omega arith)  -- overflow_add-c
     (λ c. omega arith)  -- loop-less
     loop-again
-    (λ c. all_end _ c.before.loop.invariant.1 c.before.loop.invariant.0 c.loop-test.false))  -- returns-4
+    (λ c. all_end _ c.loop-c.invariant.1 c.loop-c.invariant.0 c.loop-c-test.false))  -- returns-4

@@ -4,13 +4,9 @@ use borrow.Author.Rules.{rules}
 use Rattle.saving.proofs.writing.put_settlements.Statement.{statement}
 use Rattle.saving.proofs.writing.put_settlements.Tie as tie
 
--- back to the call whose answer is `next`
-abbrev Next : tie.After-put-u322 → tie.After-put-u32
-Next c = c.before.before.before.before
-
-pub put-settlements-spec : {M : Type 1} → statement M
-put-settlements-spec = tie.close (tie.spec
-    (λ c κs. search rules)  -- put-u32-requires
-    (λ c κs. search rules)  -- put-u32-requires-2
-    (λ c. search rules)  -- same-length
-    (λ c. then (Next c.before.before).put-u32.ensures c.before.before.put-u322.ensures))  -- returns
+pub put_settlements_spec : {M : Type 1} → statement M
+put_settlements_spec = tie.close (tie.spec
+    (λ c κs. search rules)  -- put_u32-next-requires
+    (λ c κs. search rules)  -- put_u32-requires
+    (λ c. search rules)  -- shape_of-out
+    (λ c. then c.put_u32-next.ensures c.put_u32.ensures))  -- returns

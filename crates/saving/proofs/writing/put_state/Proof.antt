@@ -4,59 +4,37 @@ use borrow.Author.Rules.{rules}
 use Rattle.saving.proofs.writing.put_state.Statement.{statement}
 use Rattle.saving.proofs.writing.put_state.Tie as tie
 
--- back to the start
-abbrev Begun : tie.After-put-account-section-arg → tie.Start
-Begun c = c.before.before.before.before.before.before.before.before
-
--- back to the call whose answer is `first`
-abbrev First : tie.After-put-account-section → tie.After-put-contract-section
-First c = c.before.before.before.before
-
--- back to the call whose answer is `second`
-abbrev Second : tie.After-put-settlements-arg → tie.After-put-account-section
-Second c = c.before.before.before.before.before.before.before
-
--- back to the call whose answer is `third`
-abbrev Third : tie.After-put-settlements → tie.After-put-holding-section
-Third c = c.before.before.before.before
-
-put-contract-section-requires : tie.Need-put-contract-section-requires
+put-contract-section-requires : tie.Need-put_contract_section-first-requires
 put-contract-section-requires c κs =
-    let start = c.before.before.before.before in
-    ((start.requires.contracts, room_first start.args.state start.args.out.now start.requires.room), start.requires.short)
+    ((c.requires.contracts, room_first c.args.state c.args.out.now c.requires.room), c.requires.short)
 
-put-account-section-requires : tie.Need-put-account-section-requires
+put-account-section-requires : tie.Need-put_account_section-second-requires
 put-account-section-requires c κs =
-    let start = Begun c in
-    ((start.pre.accounts, room_second start.args.state start.args.out.now start.pre.room c.before.before.before.put-contract-section.ensures), start.pre.marks)
+    ((c.requires.accounts, room_second c.args.state c.args.out.now c.requires.room c.put_contract_section-first.ensures), c.requires.marks)
 
-put-holding-section-requires : tie.Need-put-holding-section-requires
-put-holding-section-requires c κs =
-    let start = Begun c.before.before.before.before in (
-      start.pre.accounts,
-      start.pre.contracts,
-      room_third start.args.state start.args.out.now start.pre.room (First c.before.before.before).put-contract-section.ensures
-          c.before.before.before.put-account-section.ensures,
-    )
+put-holding-section-requires : tie.Need-put_holding_section-third-requires
+put-holding-section-requires c κs = (
+  c.requires.accounts,
+  c.requires.contracts,
+  room_third c.args.state c.args.out.now c.requires.room c.put_contract_section-first.ensures
+      c.put_account_section-second.ensures,
+)
 
-put-settlements-requires : tie.Need-put-settlements-requires
+put-settlements-requires : tie.Need-put_settlements-requires
 put-settlements-requires c κs =
-    let start = Begun (Second c).before in
-    room_last start.args.state start.args.out.now start.pre.room (First (Second c)).put-contract-section.ensures (Second c).put-account-section.ensures
-    c.before.before.before.put-holding-section.ensures
+    room_last c.args.state c.args.out.now c.requires.room c.put_contract_section-first.ensures c.put_account_section-second.ensures
+    c.put_holding_section-third.ensures
 
 returns : tie.Need-returns
 returns c =
-    let accounts = Second c.before.before.before in
-    let start = Begun accounts.before in
-    all_written start.args.state start.args.out.now start.pre.room accounts.before.before.before.before.put-contract-section.ensures accounts.put-account-section.ensures
-    (Third c.before.before).put-holding-section.ensures c.before.before.put-settlements.ensures
+    all_written c.args.state c.args.out.now c.requires.room c.put_contract_section-first.ensures c.put_account_section-second.ensures
+    c.put_holding_section-third.ensures c.put_settlements.ensures
 
-pub put-state-spec : {M : Type 1} → statement M
-put-state-spec = tie.close (tie.spec
+pub put_state_spec : {M : Type 1} → statement M
+put_state_spec = tie.close (tie.spec
     put-contract-section-requires
     put-account-section-requires
     put-holding-section-requires
     put-settlements-requires
-    (λ c. search rules)  -- same-length
+    (λ c. search rules)  -- shape_of-out
     returns)

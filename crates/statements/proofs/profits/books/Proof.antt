@@ -2,8 +2,8 @@
 use Rattle.statements.proofs.profits.books.Statement.{statement}
 use Rattle.statements.proofs.profits.books.Tie as tie
 
-pub books-spec : {M : Type 1} → statement M
-books-spec = tie.close (tie.spec
-    (λ c κs. c.before.before.before.requires.priceable)  -- prices-due-requires
-    (λ c κs. rw c.prices-due.ensures c.before.before.before.before.requires.payable)  -- all-paid-requires
-    (λ c. rw (← c.before.prices-due.ensures) c.All-Paid.ensures))  -- returns
+pub books_spec : {M : Type 1} → statement M
+books_spec = tie.close (tie.spec
+    (λ c κs. c.requires.priceable)  -- prices_due-prices-requires
+    (λ c κs. rw c.prices_due-prices.ensures c.requires.payable)  -- all_paid-requires
+    (λ c. rw (← c.prices_due-prices.ensures) c.all_paid.ensures))  -- returns

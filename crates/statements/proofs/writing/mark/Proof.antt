@@ -5,5 +5,5 @@ use Rattle.statements.proofs.writing.mark.Tie as tie
 
 pub mark_spec : {M : Type 1} → statement M
 mark_spec = tie.close (tie.spec
-    (λ c. rw (eq-eqb _ _ c.if1.true))  -- returns
-    (λ c. rw (ne_eqb _ _ c.if1.false)))  -- returns-2
+    (λ c. rw (eq-eqb _ _ c.if-close-eq0.true))  -- returns-then-close-eq0
+    (λ c. rw (ne_eqb _ _ c.if-close-eq0.false)))  -- returns-2

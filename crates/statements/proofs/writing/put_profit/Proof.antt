@@ -7,21 +7,16 @@ use borrow.Author.Rules.{rules}
 use Rattle.statements.proofs.writing.put_profit.Statement.{statement}
 use Rattle.statements.proofs.writing.put_profit.Tie as tie
 
--- back to the call whose answer is `next`
-abbrev Next : tie.After-slice-known3 → tie.After-put-u64
-Next c = c.before.before.before.before.before.before.before
-
 returns : tie.Need-returns
 returns c =
-    let start = (Next c).before.before.before.before in
-    profit_written start.args.closing start.args.holding _ _ ((Next c).before.unsigned.ensures ∙ ap unsigned (to_z-of_z start.fits.closing))
-    (c.before.before.before.unsigned2.ensures ∙ ap unsigned (to_z-of_z start.fits.holding)) (Next c).put-u64.ensures c.before.before.put-u642.ensures
+    profit_written c.args.closing c.args.holding _ _ (c.unsigned.ensures ∙ ap unsigned (to_z-of_z c.ranges.closing))
+    (c.unsigned-2.ensures ∙ ap unsigned (to_z-of_z c.ranges.holding)) c.put_u64-next.ensures c.put_u64.ensures
 
-pub put-profit-spec : {M : Type 1} → statement M
-put-profit-spec = tie.close (tie.spec
+pub put_profit_spec : {M : Type 1} → statement M
+put_profit_spec = tie.close (tie.spec
     (λ c κs. search rules)  -- unsigned-requires
-    (λ c κs. search rules)  -- put-u64-requires
+    (λ c κs. search rules)  -- put_u64-next-requires
     (λ c κs. search rules)  -- unsigned-requires-2
-    (λ c κs. search rules)  -- put-u64-requires-2
-    (λ c. search rules)  -- same-length
+    (λ c κs. search rules)  -- put_u64-requires
+    (λ c. search rules)  -- shape_of-out
     returns)
