@@ -6,6 +6,7 @@ pub mod Replay
 pub mod Facts
 pub mod Identity
 pub mod Paired
+pub mod PairingExamples
 pub mod AnyPairing
 pub mod FirstIn
 pub mod FourSums
