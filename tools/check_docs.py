@@ -41,7 +41,7 @@ def words_of(top):
     words = {".ci/run", "ci/run"}
     for path in glob.glob(os.path.join(top, "**", "*"), recursive=True):
         where = os.path.relpath(path, top)
-        if where.startswith("target"):
+        if where.startswith("target") or re.match(r"crates/\w+/out(/|$)", where):
             continue
         base = os.path.basename(path)
         words.update((where, where + "/", base, base + "/", os.path.splitext(base)[0]))
