@@ -4,16 +4,12 @@ use Rattle.baskets.proofs.Answering.{put_as}
 use Rattle.baskets.proofs.answers.answer_command.Statement.{statement}
 use Rattle.baskets.proofs.answers.answer_command.Tie as tie
 
--- back to the call of `respond`
-abbrev Respond : tie.After-result → tie.After-respond
-Respond c = c.before.before.before.before.before.before.before.before.before.before.before.before
-
-pub answer-command-spec : {M : Type 1} → statement M
-answer-command-spec = tie.close (tie.spec
-    (λ c κs. search rules)  -- respond-requires
-    (λ c κs. search rules)  -- put-answer-requires
-    (λ c. search rules)  -- same-length
-    (λ c. search rules)  -- same-length-2
-    (λ c. search rules)  -- same-length-3
-    (λ c. search rules)  -- same-length-4
-    (λ c. ((Respond c).respond.ensures.memory, put_as _ _ (Respond c).respond.ensures.answer c.before.before.before.put-answer.ensures)))  -- returns
+pub answer_command_spec : {M : Type 1} → statement M
+answer_command_spec = tie.close (tie.spec
+    (λ c κs. search rules)  -- respond-r-requires
+    (λ c κs. search rules)  -- put_answer-requires
+    (λ c. search rules)  -- shape_of-buys
+    (λ c. search rules)  -- shape_of-sells
+    (λ c. search rules)  -- shape_of-trades
+    (λ c. search rules)  -- shape_of-answers
+    (λ c. (c.respond-r.ensures.memory, put_as _ _ c.respond-r.ensures.answer c.put_answer.ensures)))  -- returns

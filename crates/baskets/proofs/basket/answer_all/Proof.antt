@@ -12,63 +12,47 @@ use Rattle.baskets.proofs.Answering.{AnsweredTo, answering_done, answering_more,
 use Rattle.baskets.proofs.basket.answer_all.Statement.{statement}
 use Rattle.baskets.proofs.basket.answer_all.Tie as tie
 
-abbrev invariant-loop : tie.invariant-loop
+abbrev invariant-loop : tie.invariant-loop-k
 invariant-loop buys₀ sells₀ trades₀ count answers₀ commands current₀ k₀ buys sells trades answers current k =
     AnsweredTo (memory current₀ buys₀ sells₀ trades₀) commands answers₀ count k (memory current buys sells trades) answers
 
-abbrev decreases-loop : tie.decreases-loop
+abbrev decreases-loop : tie.decreases-loop-k
 decreases-loop buys₀ sells₀ trades₀ count answers₀ commands current₀ k₀ buys sells trades answers current k = count - k
 
--- back to the start
-abbrev Begun : tie.At-loop invariant-loop decreases-loop → tie.Start invariant-loop decreases-loop
-Begun c = c.before.before.before.before.before
-
--- back to the turn's begin
-abbrev Turn : tie.After-answer-command-arg4 invariant-loop decreases-loop → tie.In-loop invariant-loop decreases-loop
-Turn c = c.before.before.before.before.before
-
--- back to the call of `answer-command`
-abbrev Answer-command : tie.After-slice-known8 invariant-loop decreases-loop → tie.After-answer-command invariant-loop decreases-loop
-Answer-command c = c.before.before.before.before.before.before.before.before
-
 -- the array's places are those of its type
-hundred : (c : tie.Start invariant-loop decreases-loop) → length c.args.t5 ≡ 100
+hundred : (c : tie.Start invariant-loop decreases-loop) → length c.args.commands ≡ 100
 hundred c = search (rules, unmapped)
 
-answer-command-requires : tie.Need-answer-command-requires invariant-loop decreases-loop
+answer-command-requires : tie.Need-answer_command-current-requires invariant-loop decreases-loop
 answer-command-requires c κs =
-    let turn = (Turn c).before in
-    (still_known turn.loop.inv true (Begun turn).pre.0, omega (arith, (Begun turn).pre.2, turn.loop.inv.answers))
+    (still_known c.loop-k.invariant true c.requires.0, omega (arith, c.requires.2, c.loop-k.invariant.answers))
 
-add-k : tie.Need-overflow-add-k invariant-loop decreases-loop
+add-k : tie.Need-overflow_add-k invariant-loop decreases-loop
 add-k c =
     record {
       fits = omega
-          (arith, c.before.before.before.before.before.before.before.before.before.before.before.before.before.before.before.before.before.before.before.before.ranges, c.before.before.before.before.before.before.before.before.before.before.before.before.before.before.before.before.before.before.before.before.requires.1);
+          (arith, c.ranges, c.requires.1);
     }
 
-loop-again : tie.Need-loop-preserved invariant-loop decreases-loop
+loop-again : tie.Need-loop-k-preserved invariant-loop decreases-loop
 loop-again c =
-    let answer = Answer-command c in
-    let turn = (Turn answer.before).before in
-    let start = Begun turn in
-    let kept = answer.answer-command.kept.1.1 in
-    answering_more turn.loop.inv (Turn answer.before).loop-test.taken (omega (arith, start.pre.1, hundred start)) refl
-    answer.answer-command.ensures.0 answer.answer-command.ensures.1 kept.0 kept.1.0 kept.1.1.0 kept.1.1.1.1.0
+    let kept = c.answer_command-current.auto in
+    answering_more c.loop-k.invariant c.loop-k-test.true (omega (arith, c.requires.1, hundred c.before.before.before.before.before.before.before.before.before.before.before.before.before.before.before.before.before.before.before.before)) refl
+    c.answer_command-current.ensures.0 c.answer_command-current.ensures.1 kept.buys kept.sells kept.trades kept.answers
 
-pub answer-all-spec : {M : Type 1} → statement M
-answer-all-spec = tie.close (tie.spec
+pub answer_all_spec : {M : Type 1} → statement M
+answer_all_spec = tie.close (tie.spec
     invariant-loop
     decreases-loop
     (λ c. answering_none _ _ _ _)  -- loop-holds
-    (λ c. search rules)  -- mul-command
-    (λ c. omega (arith, (Begun c.before).pre.1))  -- array-copy-out-command
+    (λ c. search rules)  -- offset_bounds-commands-k
+    (λ c. omega (arith, c.requires.1))  -- bounds-commands-k
     answer-command-requires
     add-k
     (λ c. omega arith)  -- loop-less
     loop-again
-    (λ c. search rules)  -- same-length
-    (λ c. search rules)  -- same-length-2
-    (λ c. search rules)  -- same-length-3
-    (λ c. search rules)  -- same-length-4
-    (λ c. answering_done c.before.loop.invariant (omega arith)))  -- returns
+    (λ c. search rules)  -- shape_of-buys
+    (λ c. search rules)  -- shape_of-sells
+    (λ c. search rules)  -- shape_of-trades
+    (λ c. search rules)  -- shape_of-answers
+    (λ c. answering_done c.loop-k.invariant (omega arith)))  -- returns

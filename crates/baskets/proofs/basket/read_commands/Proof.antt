@@ -17,29 +17,28 @@ use Rattle.baskets.proofs.basket.read_commands.Tie as tie
 abbrev blank : List Command
 blank = replicate max_bundle Malformed
 
-abbrev invariant-loop : tie.invariant-loop
+abbrev invariant-loop : tie.invariant-loop-k
 invariant-loop bytes count commands₀ k₀ commands k = Writing (λ i. command_from bytes (command_width * i)) blank count k commands
 
-abbrev decreases-loop : tie.decreases-loop
+abbrev decreases-loop : tie.decreases-loop-k
 decreases-loop bytes count commands₀ k₀ commands k = count - k
 
-loop-again : tie.Need-loop-preserved invariant-loop decreases-loop
+loop-again : tie.Need-loop-k-preserved invariant-loop decreases-loop
 loop-again c =
-    let turn = c.before.before in
-    writing_more _ _ _ (omega (arith, length-replicate 100 Malformed)) _ _ _ turn.loop-test.true
-    (c.command_of_lem.ensures ∙ ap command_of c.before.record-at.ensures) turn.before.loop.invariant
+    writing_more _ _ _ (omega (arith, length-replicate 100 Malformed)) _ _ _ c.loop-k-test.true
+    (c.command_of.ensures ∙ ap command_of c.record_at-record.ensures) c.loop-k.invariant
 
-pub read-commands-spec : {M : Type 1} → statement M
-read-commands-spec = tie.close (tie.spec
+pub read_commands_spec : {M : Type 1} → statement M
+read_commands_spec = tie.close (tie.spec
     invariant-loop
     decreases-loop
     (λ c. writing_none _ _ _)  -- loop-holds
-    (λ c. omega arith)  -- mul-record-at
-    (λ c κs. omega arith)  -- record-at-requires
-    (λ c κs. search rules)  -- command-of-requires
-    (λ c. omega arith)  -- mul-commands
-    (λ c. omega arith)  -- array-set-from-commands
-    (λ c. omega arith)  -- add-k
+    (λ c. omega arith)  -- overflow_mul-k
+    (λ c κs. omega arith)  -- record_at-record-requires
+    (λ c κs. search rules)  -- command_of-requires
+    (λ c. omega arith)  -- offset_bounds-commands-k
+    (λ c. omega arith)  -- bounds-commands-k
+    (λ c. omega arith)  -- overflow_add-k
     (λ c. omega arith)  -- loop-less
     loop-again
-    (λ c. writing_done _ _ _ _ _ (omega arith) c.before.loop.invariant))  -- returns
+    (λ c. writing_done _ _ _ _ _ (omega arith) c.loop-k.invariant))  -- returns

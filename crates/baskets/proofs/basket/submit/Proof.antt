@@ -6,39 +6,26 @@ use Rattle.baskets.proofs.Bundles.{all_carried, not_refused, refused}
 use Rattle.baskets.proofs.basket.submit.Statement.{statement}
 use Rattle.baskets.proofs.basket.submit.Tie as tie
 
--- back to the start
-abbrev Begun : tie.After-refusal → tie.Start
-Begun c = c.before.before.before.before.before.before.before.before
-
--- back to the test `code != 0`
-abbrev Past-code : tie.After-answer-all-arg4 → tie.Else1
-Past-code c = c.before.before.before.before
-
--- back to the call whose answer is `next`
-abbrev Next : tie.After-slice-known8 → tie.After-answer-all
-Next c = c.before.before.before.before.before.before.before.before
-
-answer-all-requires : tie.Need-answer-all-requires
+answer-all-requires : tie.Need-answer_all-next-requires
 answer-all-requires c κs =
-    let free = not_refused _ _ _ (sym (Past-code c).before.refusal.ensures ∙ c.before.before.before.before.if1.false) in
+    let free = not_refused _ _ _ (sym c.refusal-code.ensures ∙ c.if-code-ne0.false) in
     (sym free.formed, free.few, free.room)
 
-returns-2 : tie.Need-returns-2
+returns-2 : tie.Need-returns
 returns-2 c =
-    let free = Past-code (Next c).before in
-    let all = (Next c).answer-all.ensures in
-    all_carried _ (declared (Begun free.before).well_formed.0) _ _ _ (sym free.before.refusal.ensures ∙ free.if1.left) refl all.0 all.1
+    let all = c.answer_all-next.ensures in
+    all_carried _ (declared c.well_formed.0) _ _ _ (sym c.refusal-code.ensures ∙ c.if-code-ne0.false) refl all.0 all.1
 
-pub submit-spec : {M : Type 1} → statement M
-submit-spec = tie.close (tie.spec
-    (λ c κs. search rules)  -- refusal-requires
-    (λ c. search rules)  -- same-length
-    (λ c. search rules)  -- same-length-2
-    (λ c. search rules)  -- same-length-3
-    (λ c. refused _ (declared (Begun c.before).well_formed.0) _ _ _ c.before.refusal.result c.before.refusal.ensures c.if1.true refl)  -- returns
+pub submit_spec : {M : Type 1} → statement M
+submit_spec = tie.close (tie.spec
+    (λ c κs. search rules)  -- refusal-code-requires
+    (λ c. search rules)  -- shape_of-buys-then-code-ne0
+    (λ c. search rules)  -- shape_of-sells-then-code-ne0
+    (λ c. search rules)  -- shape_of-trades-then-code-ne0
+    (λ c. refused _ (declared c.well_formed.0) _ _ _ c.refusal-code.result c.refusal-code.ensures c.if-code-ne0.true refl)  -- returns-then-code-ne0
     answer-all-requires
-    (λ c. search rules)  -- same-length-4
-    (λ c. search rules)  -- same-length-5
-    (λ c. search rules)  -- same-length-6
-    (λ c. search rules)  -- same-length-7
+    (λ c. search rules)  -- shape_of-buys
+    (λ c. search rules)  -- shape_of-sells
+    (λ c. search rules)  -- shape_of-trades
+    (λ c. search rules)  -- shape_of-answers
     returns-2)

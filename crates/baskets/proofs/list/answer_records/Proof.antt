@@ -11,59 +11,39 @@ use Rattle.baskets.proofs.Answering.{AnsweredTo, all_first, answering_more, answ
 use Rattle.baskets.proofs.list.answer_records.Statement.{statement}
 use Rattle.baskets.proofs.list.answer_records.Tie as tie
 
-abbrev invariant-loop : tie.invariant-loop
+abbrev invariant-loop : tie.invariant-loop-k
 invariant-loop formed buys₀ sells₀ trades₀ bytes count answers₀ current₀ k₀ buys sells trades answers current k =
     AnsweredTo (memory current₀ buys₀ sells₀ trades₀) (first_commands bytes count) answers₀ count k (memory current buys sells trades) answers
 
-abbrev decreases-loop : tie.decreases-loop
+abbrev decreases-loop : tie.decreases-loop-k
 decreases-loop formed buys₀ sells₀ trades₀ bytes count answers₀ current₀ k₀ buys sells trades answers current k = count - k
 
--- back to the start
-abbrev Begun : tie.At-loop invariant-loop decreases-loop → tie.Start invariant-loop decreases-loop
-Begun c = c.before.before.before.before.before.before
-
--- back to the loop's head
-abbrev Head : tie.After-slice-known8 invariant-loop decreases-loop → tie.At-loop invariant-loop decreases-loop
-Head c = c.before.before.before.before.before.before.before.before.before.before.before.before.before.before.before.before
-
--- back to the call whose answer is `command`
-abbrev Command : tie.After-answer-command-arg4 invariant-loop decreases-loop → tie.After-command-of invariant-loop decreases-loop
-Command c = c.before.before.before.before
-
--- back to the call of `answer-command`
-abbrev Answer-command : tie.After-slice-known8 invariant-loop decreases-loop → tie.After-answer-command invariant-loop decreases-loop
-Answer-command c = c.before.before.before.before.before.before.before.before
-
-answer-command-requires : tie.Need-answer-command-requires invariant-loop decreases-loop
+answer-command-requires : tie.Need-answer_command-current-requires invariant-loop decreases-loop
 answer-command-requires c κs =
-    let turn = (Command c).before.before.before in
-    (still_known turn.loop.inv _ (Begun turn).pre.0, omega (arith, (Begun turn).pre.2, turn.loop.inv.answers))
+    (still_known c.loop-k.invariant _ c.requires.0, omega (arith, c.requires.2, c.loop-k.invariant.answers))
 
-loop-again : tie.Need-loop-preserved invariant-loop decreases-loop
+loop-again : tie.Need-loop-k-preserved invariant-loop decreases-loop
 loop-again c =
-    let answer = Answer-command c in
-    let command = Command answer.before in
-    let turn = command.before.before.before in
-    let here = command.before.before.loop-test.taken in
-    let kept = answer.answer-command.kept.1.1 in
-    answering_more turn.loop.inv here (omega (arith, length_first (Begun turn).args.bytes.now (Begun turn).args.count))
-    (command_at _ _ _ here ∙ sym (command.command_of_lem.ensures ∙ ap command_of command.before.record-at.ensures))
-    answer.answer-command.ensures.0 answer.answer-command.ensures.1 kept.0 kept.1.0 kept.1.1.0 kept.1.1.1.1.0
+    let here = c.loop-k-test.true in
+    let kept = c.answer_command-current.auto in
+    answering_more c.loop-k.invariant here (omega (arith, length_first c.args.bytes.now c.args.count))
+    (command_at _ _ _ here ∙ sym (c.command_of-command.ensures ∙ ap command_of c.record_at-record.ensures))
+    c.answer_command-current.ensures.0 c.answer_command-current.ensures.1 kept.buys kept.sells kept.trades kept.answers
 
-pub answer-records-spec : {M : Type 1} → statement M
-answer-records-spec = tie.close (tie.spec
+pub answer_records_spec : {M : Type 1} → statement M
+answer_records_spec = tie.close (tie.spec
     invariant-loop
     decreases-loop
     (λ c. answering_none _ _ _ _)  -- loop-holds
-    (λ c. omega arith)  -- mul-record-at
-    (λ c κs. omega arith)  -- record-at-requires
-    (λ c κs. search rules)  -- command-of-requires
+    (λ c. omega arith)  -- overflow_mul-k
+    (λ c κs. omega arith)  -- record_at-record-requires
+    (λ c κs. search rules)  -- command_of-command-requires
     answer-command-requires
-    (λ c. record { fits = omega (arith, (Begun (Head c)).fits, (Begun (Head c)).pre.1) })  -- add-k
+    (λ c. record { fits = omega (arith, c.ranges, c.requires.1) })  -- overflow_add-k
     (λ c. omega arith)  -- loop-less
     loop-again
-    (λ c. search rules)  -- same-length
-    (λ c. search rules)  -- same-length-2
-    (λ c. search rules)  -- same-length-3
-    (λ c. search rules)  -- same-length-4
-    (λ c. all_first _ _ c.before.loop.invariant (omega arith)))  -- returns
+    (λ c. search rules)  -- shape_of-buys
+    (λ c. search rules)  -- shape_of-sells
+    (λ c. search rules)  -- shape_of-trades
+    (λ c. search rules)  -- shape_of-answers
+    (λ c. all_first _ _ c.loop-k.invariant (omega arith)))  -- returns
