@@ -3,9 +3,9 @@ use borrow.Author.Tests.{not-true, not-false}
 use Rattle.runner.proofs.output.goes_on.Statement.{statement}
 use Rattle.runner.proofs.output.goes_on.Tie as tie
 
-pub goes-on-spec : {M : Type 1} → statement M
-goes-on-spec =
+pub goes_on_spec : {M : Type 1} → statement M
+goes_on_spec =
     tie.close
     (tie.spec
-    (λ c. rw (not-true c.before.args.more c.if1.true))  -- returns
-    (λ c. rw (not-false c.before.args.more c.if1.false)))  -- returns-2
+    (λ c. rw (c.if-not-more.true))  -- returns-then-not-more
+    (λ c. rw (c.if-not-more.false)))  -- returns-2

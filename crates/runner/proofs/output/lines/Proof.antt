@@ -1,4 +1,5 @@
 -- `output::lines` meets its contract: the refusals in their order, then the part of a broken or of a sound file. Assumes nothing.
+use Rattle.std.proofs.Common.{ap}
 use mathlib.Core.Bool.{true, not, ◌&&◌}
 use mathlib.Core.Path.{◌≡◌}
 use Prim.Native.Nat.{◌≤◌}
@@ -14,92 +15,64 @@ use Rattle.runner.proofs.WholeOutput.{formed_state, not_formed, printed_part, to
 use Rattle.runner.proofs.output.lines.Statement.{statement}
 use Rattle.runner.proofs.output.lines.Tie as tie
 
--- from the first test back to the start
-abbrev Lent : tie.After-can-play → tie.After-slice-known4
-Lent c = c.before.before.before.before
-
-abbrev Areas : tie.After-slice-known4 → tie.After-shared-slice-known
-Areas c = c.before.before.before.before
-
-abbrev Begun : tie.After-can-play → tie.Start
-Begun c = (Areas (Lent c)).before
-
-returns : tie.Need-returns
+returns : tie.Need-returns-then-not-can_play
 returns c =
-    let tested = c.before.before in
-    rw c.nothing.ensures (not_formed _ _ _ _ _ _ _ (refused tested.can-play.ensures c.before.if1.true))
+    rw c.nothing.ensures (not_formed _ _ _ _ _ _ _ (refused c.can_play.ensures (ap not c.if-not-can_play.true)))
 
-returns-2 : tie.Need-returns-2
+returns-2 : tie.Need-returns-then-out-lt-COMMAND_MOST
 returns-2 c =
-    let tested = c.before.before.before in
-    rw c.nothing2.ensures (too_short _ _ _ _ _ _ _ (passed tested.can-play.ensures c.before.before.if1.false) (omega (arith, c.before.if2.true)))
+    rw c.nothing-then-out-lt-COMMAND_MOST.ensures (too_short _ _ _ _ _ _ _ (passed c.can_play.ensures (ap not c.if-not-can_play.false)) (omega (arith, c.if-out-lt-COMMAND_MOST.true)))
 
 -- a file that can be played, and a buffer with room
-playable : (c : tie.Else2)
-    → let a = (Begun c.before.before).args in
+playable : (c : tie.Else-out-lt-COMMAND_MOST)
+    → let a = c.args in
     not (sound a.file.now && not (well_formed_memory (memory a.state a.buys.now a.sells.now a.trades.now))) ≡ true
-playable c = passed c.before.before.can-play.ensures c.before.if1.false
+playable c = passed c.can_play.ensures (ap not c.if-not-can_play.false)
 
-room : (c : tie.Else2) → command_most ≤ length (Begun c.before.before).args.out.now
-room c = omega (arith, c.if2.false)
+room : (c : tie.Else-out-lt-COMMAND_MOST) → command_most ≤ length c.args.out.now
+room c = omega (arith, c.if-out-lt-COMMAND_MOST.false)
 
-returns-3 : tie.Need-returns-3
+returns-3 : tie.Need-returns-then-not-sound
 returns-3 c =
-    let broken = c.before.before in
-    let tested = broken.before.before.before.before in
-    printed_part _ _ _ _ _ _ _ (playable tested) (room tested) (broken.print-broken.ensures _ _ _)
+    printed_part _ _ _ _ _ _ _ (playable c.before.before.before.before.before.before) (room c.before.before.before.before.before.before) (c.print_broken.ensures _ _ _)
 
--- from the call for a sound file back to where the file was found sound, and to where the buffer was
-abbrev Sound : tie.After-print-sound-arg4 → tie.Else3
-Sound c = c.before.before.before.before
-
-print-sound-requires : tie.Need-print-sound-requires
+print-sound-requires : tie.Need-print_sound-requires
 print-sound-requires c κs =
-    let tested = (Sound c).before.before in
-    let whole = passed (Sound c).before.sound.ensures (Sound c).if3.false in
-    let lent = Begun tested.before.before in
+    let whole = passed c.sound.ensures (ap not c.if-not-sound.false) in
     record {
       whole = whole;
       within = omega arith;
-      formed = record { declared = declared lent.good.1.0; formed = formed_state _ lent.args.next _ _ _ _ lent.args.out.now (playable tested) whole };
-      room = room tested;
+      formed = record { declared = declared c.well_formed.1.0; formed = formed_state _ c.args.next _ _ _ _ c.args.out.now (playable c.before.before.before.before.before.before) whole };
+      room = room c.before.before.before.before.before.before;
     }
 
--- from the end back to that call
-abbrev Given : tie.After-slice-known9 → tie.After-slice-known7
-Given c = c.before.before.before.before
-
-abbrev Printed : tie.After-slice-known9 → tie.After-print-sound
-Printed c = (Given c).before.before.before.before
-
-returns-4 : tie.Need-returns-4
+returns-4 : tie.Need-returns
 returns-4 c =
-    let tested = (Sound (Printed c).before).before.before in
-    printed_part _ _ _ _ _ _ _ (playable tested) (room tested) (Printed c).print-sound.ensures
+    printed_part _ _ _ _ _ _ _ (playable c.before.before.before.before.before.before.before.before.before.before.before.before.before.before.before) (room c.before.before.before.before.before.before.before.before.before.before.before.before.before.before.before) c.print_sound.ensures
 
-pub lines-spec : {M : Type 1} → statement M
-lines-spec = tie.close (tie.spec
-    (λ c κs. search rules)  -- can-play-requires
+pub lines_spec : {M : Type 1} → statement M
+lines_spec = tie.close (tie.spec
+    (λ c κs. search rules)  -- can_play-requires
     (λ c κs. search rules)  -- nothing-requires
-    (λ c. search rules)  -- same-length
-    (λ c. search rules)  -- same-length-2
-    (λ c. search rules)  -- same-length-3
+    (λ c. search rules)  -- shape_of-buys-then-not-can_play
+    (λ c. search rules)  -- shape_of-sells-then-not-can_play
+    (λ c. search rules)  -- shape_of-trades-then-not-can_play
     returns
-    (λ c κs. search rules)  -- nothing-requires-2
-    (λ c. search rules)  -- same-length-4
-    (λ c. search rules)  -- same-length-5
-    (λ c. search rules)  -- same-length-6
+    (λ c κs. search rules)  -- nothing-requires-then-out-lt-COMMAND_MOST
+    (λ c. search rules)  -- shape_of-buys-then-out-lt-COMMAND_MOST
+    (λ c. search rules)  -- shape_of-sells-then-out-lt-COMMAND_MOST
+    (λ c. search rules)  -- shape_of-trades-then-out-lt-COMMAND_MOST
     returns-2
     (λ c κs. search rules)  -- sound-requires
-    (λ c κs. (refused c.before.before.sound.ensures c.before.if3.true, room c.before.before.before))  -- print-broken-requires
-    (λ c. search rules)  -- same-length-7
-    (λ c. search rules)  -- same-length-8
-    (λ c. search rules)  -- same-length-9
-    (λ c. search rules)  -- same-length-10
+    (λ c κs. (refused c.sound.ensures (ap not c.if-not-sound.true), room c.before.before.before))  -- print_broken-requires
+    (λ c. search rules)  -- shape_of-buys-then-not-sound
+    (λ c. search rules)  -- shape_of-sells-then-not-sound
+    (λ c. search rules)  -- shape_of-trades-then-not-sound
+    (λ c. search rules)  -- shape_of-out-then-not-sound
     returns-3
     print-sound-requires
-    (λ c. search rules)  -- same-length-11
-    (λ c. search rules)  -- same-length-12
-    (λ c. search rules)  -- same-length-13
-    (λ c. search rules)  -- same-length-14
+    (λ c. search rules)  -- shape_of-buys
+    (λ c. search rules)  -- shape_of-sells
+    (λ c. search rules)  -- shape_of-trades
+    (λ c. search rules)  -- shape_of-out
     returns-4)

@@ -9,36 +9,32 @@ use Rattle.runner.proofs.Tables.{rows_none, rows_more}
 use Rattle.runner.proofs.printing.put_prices.Statement.{statement}
 use Rattle.runner.proofs.printing.put_prices.Tie as tie
 
-abbrev invariant-loop : tie.invariant-loop
+abbrev invariant-loop : tie.invariant-loop-c
 invariant-loop out₀ at n prices next₀ c₀ out next c =
     (c ≤ n) × Written (price_line_most * c) out₀ at (rows (price_row prices) c) out next
 
-abbrev decreases-loop : tie.decreases-loop
+abbrev decreases-loop : tie.decreases-loop-c
 decreases-loop out₀ at n prices next₀ c₀ out next c = n - c
 
--- back to the loop's head
-abbrev Head : tie.After-slice-known2 invariant-loop decreases-loop → tie.At-loop invariant-loop decreases-loop
-Head c = c.before.before.before.before.before
+put-price-requires : tie.Need-put_price-next-requires invariant-loop decreases-loop
+put-price-requires c κs = omega (arith, c.loop-c.invariant.1.ends, c.loop-c.invariant.1.short, c.loop-c.invariant.1.kept)
 
-put-price-requires : tie.Need-put-price-requires invariant-loop decreases-loop
-put-price-requires c κs = omega (arith, c.before.before.loop.invariant.1.ends, c.before.before.loop.invariant.1.short, c.before.before.loop.invariant.1.kept)
+loop-again : tie.Need-loop-c-preserved invariant-loop decreases-loop
+loop-again c = (omega arith, rows_more _ _ _ price_line_most _ (omega arith) c.loop-c.invariant.1 c.put_price-next.ensures)
 
-loop-again : tie.Need-loop-preserved invariant-loop decreases-loop
-loop-again c = (omega arith, rows_more _ _ _ price_line_most _ (omega arith) (Head c).loop.invariant.1 c.before.before.put-price.ensures)
-
-pub put-prices-spec : {M : Type 1} → statement M
-put-prices-spec =
+pub put_prices_spec : {M : Type 1} → statement M
+put_prices_spec =
     tie.close
     (tie.spec
     invariant-loop
     decreases-loop
     (λ c. (omega arith, rows_none _ (omega arith)))  -- loop-holds
-    (λ c. omega arith)  -- cast-put-price
-    (λ c. omega arith)  -- mul-put-price
-    (λ c. omega arith)  -- array-read-put-price
+    (λ c. omega arith)  -- overflow_cast-c
+    (λ c. omega arith)  -- offset_bounds-prices-c
+    (λ c. omega arith)  -- bounds-prices-c
     put-price-requires
-    (λ c. omega arith)  -- add-c
+    (λ c. omega arith)  -- overflow_add-c
     (λ c. omega arith)  -- loop-less
     loop-again
-    (λ c. c.before.loop.invariant.1.kept)  -- same-length
-    (λ c. let e : c.before.loop.c ≡ c.before.before.before.args.n = omega arith in rw (← e) c.before.loop.invariant.1))  -- returns
+    (λ c. c.loop-c.invariant.1.kept)  -- shape_of-out
+    (λ c. let e : c.loop-c.c ≡ c.args.n = omega arith in rw (← e) c.loop-c.invariant.1))  -- returns

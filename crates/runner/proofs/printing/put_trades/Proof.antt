@@ -12,49 +12,43 @@ use Rattle.runner.proofs.Recorded.{trades_none, trades_more, trades_done}
 use Rattle.runner.proofs.printing.put_trades.Statement.{statement}
 use Rattle.runner.proofs.printing.put_trades.Tie as tie
 
-abbrev invariant-loop : tie.invariant-loop
+abbrev invariant-loop : tie.invariant-loop-i
 invariant-loop out₀ at area first count next₀ i₀ out next i =
     (first ≤ i) × ((i ≤ max first count) × Written (trade_line_most * (i - first)) out₀ at (trade_lines (first + 1) (drop first (recorded_trades area i))) out next)
 
-abbrev decreases-loop : tie.decreases-loop
+abbrev decreases-loop : tie.decreases-loop-i
 decreases-loop out₀ at area first count next₀ i₀ out next i = count - i
 
--- back to the loop's head
-abbrev Head : tie.After-put-trade invariant-loop decreases-loop → tie.At-loop invariant-loop decreases-loop
-Head c = c.before.before.before.before
+loop-holds : tie.Need-loop-i-init invariant-loop decreases-loop
+loop-holds c = (omega arith, (omega arith, looser (trades_none c.args.area.now c.args.first (omega arith)) _ (omega arith)))
 
-loop-holds : tie.Need-loop-init invariant-loop decreases-loop
-loop-holds c = (omega arith, (omega arith, looser (trades_none c.before.before.args.area.now c.before.before.args.first (omega arith)) _ (omega arith)))
-
-loop-again : tie.Need-loop-preserved invariant-loop decreases-loop
+loop-again : tie.Need-loop-i-preserved invariant-loop decreases-loop
 loop-again c =
-    let turn = Head c.before.before in
-    let a = turn.before.before.before.args in
-    let inv = turn.loop.inv in (
+    let a = c.args in
+    let inv = c.loop-i.invariant in (
       omega arith,
       (
         omega arith,
-        trades_more a.area.now a.first turn.loop.i _ _ _ inv.0 (omega (arith, inv.0))
-            c.before.before.before.before.trade_at_lem.ensures inv.1.1 c.before.before.put-trade.ensures,
+        trades_more a.area.now a.first c.loop-i.i _ _ _ inv.0 (omega (arith, inv.0))
+            c.trade_at-trade.ensures inv.1.1 c.put_trade-next.ensures,
       ),
     )
 
 returns : tie.Need-returns invariant-loop decreases-loop
 returns c =
-    let h = c.before in
-    let a = h.before.before.before.args in
-    rw (← trades_done a.area.now a.first h.loop.i a.count h.loop.invariant.0 (omega arith) h.loop.invariant.1.0) (looser h.loop.invariant.1.1 _ (omega arith))
+    let a = c.args in
+    rw (← trades_done a.area.now a.first c.loop-i.i a.count c.loop-i.invariant.0 (omega arith) c.loop-i.invariant.1.0) (looser c.loop-i.invariant.1.1 _ (omega arith))
 
-pub put-trades-spec : {M : Type 1} → statement M
-put-trades-spec = tie.close (tie.spec
+pub put_trades_spec : {M : Type 1} → statement M
+put_trades_spec = tie.close (tie.spec
     invariant-loop
     decreases-loop
     loop-holds
-    (λ c κs. omega arith)  -- trade-at-requires
-    (λ c. search rules)  -- add-put-trade
-    (λ c κs. let w = c.before.before.before.loop.invariant.1.1 in omega (arith, w.ends, w.short, w.kept))  -- put-trade-requires
-    (λ c. omega arith)  -- add-i
+    (λ c κs. omega arith)  -- trade_at-trade-requires
+    (λ c. search rules)  -- overflow_add-i
+    (λ c κs. let w = c.loop-i.invariant.1.1 in omega (arith, w.ends, w.short, w.kept))  -- put_trade-next-requires
+    (λ c. omega arith)  -- overflow_add-i-in-loop-i
     (λ c. omega arith)  -- loop-less
     loop-again
-    (λ c. c.before.loop.invariant.1.1.kept)  -- same-length
+    (λ c. c.loop-i.invariant.1.1.kept)  -- shape_of-out
     returns)

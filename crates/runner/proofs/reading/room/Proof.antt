@@ -9,5 +9,5 @@ use Rattle.runner.proofs.reading.room.Tie as tie
 returns : tie.Need-returns
 returns c = room_enough (file_most + 1) (omega arith)
 
-pub room-spec : {M : Type 1} → statement M
-room-spec = tie.close (tie.spec returns)
+pub room_spec : {M : Type 1} → statement M
+room_spec = tie.close (tie.spec returns)
