@@ -183,7 +183,7 @@ class Sources:
     @cached_property
     def cases(self):
         found = {}
-        for path in [*self.files("*/specs/*Examples.antt"), *self.files("rules/specs/PaperDay.antt")]:
+        for path in [*self.files("*/specs/*Examples.antt"), *self.files("*/proofs/*Examples.antt"), *self.files("rules/specs/PaperDay.antt")]:
             text = path.read_text(encoding="utf-8")
             comment, _ = split_comment(blocks(text)[0], "--")
             groups = [group for block in blocks(text) for group in groups_of(block)]
