@@ -4,16 +4,12 @@ use Rattle.bench_exchange.proofs.Probing.{ran_probed}
 use Rattle.bench_exchange.proofs.bench_run.Statement.{statement}
 use Rattle.bench_exchange.proofs.bench_run.Tie as tie
 
--- back to the call whose answer is `state`
-abbrev State : tie.After-probed → tie.After-run
-State c = c.before.before.before.before.before.before.before
-
-pub bench-run-spec : {M : Type 1} → statement M
-bench-run-spec = tie.close (tie.spec
-    (λ c κs. search rules)  -- opening-state-requires
-    (λ c κs. search rules)  -- run-requires
+pub bench_run_spec : {M : Type 1} → statement M
+bench_run_spec = tie.close (tie.spec
+    (λ c κs. search rules)  -- opening_state-opening-requires
+    (λ c κs. search rules)  -- run-state-requires
     (λ c κs. search rules)  -- probed-requires
-    (λ c. search rules)  -- same-length
-    (λ c. search rules)  -- same-length-2
-    (λ c. search rules)  -- same-length-3
-    (λ c. ran_probed _ (State c).before.before.before.before.opening-state.ensures (State c).run.ensures _ _ c.probed.ensures))  -- returns
+    (λ c. search rules)  -- shape_of-buys
+    (λ c. search rules)  -- shape_of-sells
+    (λ c. search rules)  -- shape_of-trades
+    (λ c. ran_probed _ c.opening_state-opening.ensures c.run-state.ensures _ _ c.probed.ensures))  -- returns
