@@ -10,13 +10,12 @@ remove-quote-requires c κs =
     (c.requires.0, removable c.requires.0 c.args.account c.args.contract c.args.lots c.args.buy c.args.sell c.requires.1)
 
 enter-marked-requires : tie.Need-enter_marked-bought-requires
-enter-marked-requires c κs =
-    (
-      gone_formed c.requires.0 c.args.account c.args.contract c.args.lots c.args.buy c.args.sell
-          c.requires.1 c.remove_quote-gone.ensures.lies,
-      buy_quotable c.requires.0 c.args.account c.args.contract
-          c.args.lots c.args.buy c.args.sell c.requires.1 c.remove_quote-gone.ensures.lies c.day_limit-bid.ensures,
-    )
+enter-marked-requires c κs = (
+  gone_formed c.requires.0 c.args.account c.args.contract c.args.lots c.args.buy c.args.sell
+      c.requires.1 c.remove_quote-gone.ensures.lies,
+  buy_quotable c.requires.0 c.args.account c.args.contract
+      c.args.lots c.args.buy c.args.sell c.requires.1 c.remove_quote-gone.ensures.lies c.day_limit-bid.ensures,
+)
 
 returns : tie.Need-returns-then-first-ne0
 returns c =
@@ -25,15 +24,14 @@ returns c =
     c.enter_marked-bought.ensures c.if-first-ne0.true c.refused.ensures
 
 enter-marked-requires-2 : tie.Need-enter_marked-sold-requires
-enter-marked-requires-2 c κs =
-    (
-      bought_formed c.requires.0 c.args.account c.args.contract c.args.lots c.args.buy c.args.sell
-          c.requires.1 c.remove_quote-gone.ensures.lies c.day_limit-bid.ensures
-          c.enter_marked-bought.ensures c.if-first-ne0.false,
-      sell_quotable c.requires.0 c.args.account c.args.contract
-          c.args.lots c.args.buy c.args.sell c.requires.1 c.remove_quote-gone.ensures.lies
-          c.day_limit-bid.ensures c.enter_marked-bought.ensures c.if-first-ne0.false c.day_limit-offer.ensures,
-    )
+enter-marked-requires-2 c κs = (
+  bought_formed c.requires.0 c.args.account c.args.contract c.args.lots c.args.buy c.args.sell
+      c.requires.1 c.remove_quote-gone.ensures.lies c.day_limit-bid.ensures
+      c.enter_marked-bought.ensures c.if-first-ne0.false,
+  sell_quotable c.requires.0 c.args.account c.args.contract
+      c.args.lots c.args.buy c.args.sell c.requires.1 c.remove_quote-gone.ensures.lies
+      c.day_limit-bid.ensures c.enter_marked-bought.ensures c.if-first-ne0.false c.day_limit-offer.ensures,
+)
 
 same-length-4 : tie.Need-shape_of-buys-then-second-ne0
 same-length-4 c =

@@ -7,12 +7,11 @@ use Rattle.quoting.proofs.remove_quote.Statement.{statement}
 use Rattle.quoting.proofs.remove_quote.Tie as tie
 
 pull-requires : tie.Need-pull-bid-requires
-pull-requires c κs =
-    (
-      side_few c.requires.0 _ _ _ c.requires.1 c.place_of-c.ensures false,
-      side_room c.requires.0
-          _ _ _ c.requires.1 c.place_of-c.ensures false,
-    )
+pull-requires c κs = (
+  side_few c.requires.0 _ _ _ c.requires.1 c.place_of-c.ensures false,
+  side_room c.requires.0
+      _ _ _ c.requires.1 c.place_of-c.ensures false,
+)
 
 pull-requires-2 : tie.Need-pull-offer-requires
 pull-requires-2 c κs =

@@ -34,15 +34,14 @@ with-listed-requires c κs =
     contract_fits c.requires.0 c.args.q c.requires.1 c.remove_quote-gone.ensures c.day_limit-bid.ensures c.rest_marked-bought.ensures
 
 rest-marked-requires-2 : tie.Need-rest_marked-sold-requires
-rest-marked-requires-2 c κs =
-    (
-      after_formed c.requires.0 c.args.q c.requires.1 c.remove_quote-gone.ensures c.day_limit-bid.ensures
-          c.rest_marked-bought.ensures c.if-first-ne0.false c.if-bought.false c.with_listed-after.ensures,
-      after_quotable c.requires.0 c.args.q c.requires.1 c.remove_quote-gone.ensures c.day_limit-bid.ensures
-          c.rest_marked-bought.ensures c.if-first-ne0.false c.if-bought.false c.with_listed-after.ensures c.day_limit-offer.ensures,
-      rw c.day_limit-offer.ensures (after_held c.requires.0 c.args.q c.requires.1 c.remove_quote-gone.ensures
-          c.day_limit-bid.ensures c.rest_marked-bought.ensures c.if-first-ne0.false c.if-bought.false c.with_listed-after.ensures c.requires.2),
-    )
+rest-marked-requires-2 c κs = (
+  after_formed c.requires.0 c.args.q c.requires.1 c.remove_quote-gone.ensures c.day_limit-bid.ensures
+      c.rest_marked-bought.ensures c.if-first-ne0.false c.if-bought.false c.with_listed-after.ensures,
+  after_quotable c.requires.0 c.args.q c.requires.1 c.remove_quote-gone.ensures c.day_limit-bid.ensures
+      c.rest_marked-bought.ensures c.if-first-ne0.false c.if-bought.false c.with_listed-after.ensures c.day_limit-offer.ensures,
+  rw c.day_limit-offer.ensures (after_held c.requires.0 c.args.q c.requires.1 c.remove_quote-gone.ensures
+      c.day_limit-bid.ensures c.rest_marked-bought.ensures c.if-first-ne0.false c.if-bought.false c.with_listed-after.ensures c.requires.2),
+)
 
 same-length-5 : tie.Need-shape_of-buys-then-second-ne0
 same-length-5 c =

@@ -34,22 +34,20 @@ decide-requires c κs =
     (running_formed c.loop-k.invariant.1, held_at_lem c.loop-k.current c.command_of-command.result c.account_place-a.ensures)
 
 loop-again : tie.Need-loop-k-preserved-in-Nothing invariant-loop decreases-loop
-loop-again c =
-    (
-      omega (arith, c.loop-k-test.true),
-      running_on c.loop-k.invariant.1 (c.command_of-command.ensures ∙ ap command_of c.record_at-record.ensures)
-          (nothing_left c.decide-decision.ensures c.in-Nothing.is)
-          c.decide-decision.auto.buys c.decide-decision.auto.sells refl,
-    )
+loop-again c = (
+  omega (arith, c.loop-k-test.true),
+  running_on c.loop-k.invariant.1 (c.command_of-command.ensures ∙ ap command_of c.record_at-record.ensures)
+      (nothing_left c.decide-decision.ensures c.in-Nothing.is)
+      c.decide-decision.auto.buys c.decide-decision.auto.sells refl,
+)
 
 loop-again-2 : tie.Need-loop-k-preserved-in-Balance invariant-loop decreases-loop
-loop-again-2 c =
-    (
-      omega (arith, c.loop-k-test.true),
-      running_on c.loop-k.invariant.1 (c.command_of-command.ensures ∙ ap command_of c.record_at-record.ensures)
-          (balance_left c.decide-decision.ensures c.in-Balance.is (search (rules, c.in-Balance.known_told-1-own.given)))
-          c.decide-decision.auto.buys c.decide-decision.auto.sells refl,
-    )
+loop-again-2 c = (
+  omega (arith, c.loop-k-test.true),
+  running_on c.loop-k.invariant.1 (c.command_of-command.ensures ∙ ap command_of c.record_at-record.ensures)
+      (balance_left c.decide-decision.ensures c.in-Balance.is (search (rules, c.in-Balance.known_told-1-own.given)))
+      c.decide-decision.auto.buys c.decide-decision.auto.sells refl,
+)
 
 carry-out-requires : tie.Need-carry_out-t-requires invariant-loop decreases-loop
 carry-out-requires c κs =
@@ -60,13 +58,12 @@ carry-whole-requires c κs =
     whole_ready c.decide-decision.ensures c.in-Whole.is (running_formed c.loop-k.invariant.1)
 
 loop-again-3 : tie.Need-loop-k-preserved-in-Whole invariant-loop decreases-loop
-loop-again-3 c =
-    (
-      omega (arith, c.loop-k-test.true),
-      running_on c.loop-k.invariant.1 (c.command_of-command.ensures ∙ ap command_of c.record_at-record.ensures)
-          (whole_responded c.decide-decision.ensures c.in-Whole.is c.carry_whole-r.ensures).memory
-          (c.carry_whole-r.auto.buys ∙ c.decide-decision.auto.buys) (c.carry_whole-r.auto.sells ∙ c.decide-decision.auto.sells) c.carry_whole-r.auto.trades,
-    )
+loop-again-3 c = (
+  omega (arith, c.loop-k-test.true),
+  running_on c.loop-k.invariant.1 (c.command_of-command.ensures ∙ ap command_of c.record_at-record.ensures)
+      (whole_responded c.decide-decision.ensures c.in-Whole.is c.carry_whole-r.ensures).memory
+      (c.carry_whole-r.auto.buys ∙ c.decide-decision.auto.buys) (c.carry_whole-r.auto.sells ∙ c.decide-decision.auto.sells) c.carry_whole-r.auto.trades,
+)
 
 -- ---- where the contract is left to be written
 
@@ -93,12 +90,11 @@ trades_kept : (c : tie.Joined-update invariant-loop decreases-loop) → length c
 trades_kept c = ⊎_elim (λ l. ap length l.trades-is) (λ p. ap length p.trades-is ∙ p.carry_out-t.auto.trades) c.match-update.branch-raw
 
 loop-again-4 : tie.Need-loop-k-preserved invariant-loop decreases-loop
-loop-again-4 c =
-    (
-      omega (arith, c.loop-k-test.true),
-      running_on c.loop-k.invariant.1 (c.command_of-command.ensures ∙ ap command_of c.record_at-record.ensures) (joined c.before).left
-          (buys_kept c.before) (sells_kept c.before) (trades_kept c.before),
-    )
+loop-again-4 c = (
+  omega (arith, c.loop-k-test.true),
+  running_on c.loop-k.invariant.1 (c.command_of-command.ensures ∙ ap command_of c.record_at-record.ensures) (joined c.before).left
+      (buys_kept c.before) (sells_kept c.before) (trades_kept c.before),
+)
 
 pub run_through_spec : {M : Type 1} → statement M
 run_through_spec = tie.close (tie.spec
