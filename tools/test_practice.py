@@ -300,6 +300,7 @@ class Terminal(unittest.TestCase):
         self.wait_for("> ")
         self.type("bo\t\r")
         self.wait_for("contract 1: continuous")
+        self.wait_for("> ")  # before the prompt is shown a key is the terminal's
         self.type("\x04")  # Ctrl-D
         self.wait_for("the end: 4 commands. Every answer was the engine's, and the model's too.")
         self.assertEqual(self.running.wait(30), 0)
@@ -308,11 +309,13 @@ class Terminal(unittest.TestCase):
         self.start()
         self.type("deposit 1 777\r")
         self.wait_for("= 10,777")
+        self.wait_for("> ")
         self.type("quit\r")
         self.running.wait(30)
         self.start()
         self.type("\x1b[A\x1b[A\r")
         self.wait_for("= 10,777")
+        self.wait_for("> ")
         self.type("\x04")
         self.running.wait(30)
 
