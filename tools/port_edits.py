@@ -167,7 +167,7 @@ def main(argv):
             print(f"WORDS {edit}: {' '.join(words)}\n  old {old}\n  new {new}\n  ->  {w}")
         good += 1
         if write:
-            out, k, kinds = [], 0, 0
+            out, k = [], 0
             for line in text.split("\n"):
                 if line.startswith("#"):
                     out.append(comment(line, names))
