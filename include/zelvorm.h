@@ -311,8 +311,8 @@ static inline const char *zelvorm_code_words(uint32_t code) {
 }
 
 /* A contract's terms for the day, with the number of its pairing method, its phase (the paper's contract state) and its
- * last price. Rate and method are as wide as in the day file: four contracts then take 128 bytes, which a compiler
- * still copies in place. */
+ * last price. Both numbers are the C interface's. Rate and method are as wide as in the day file: four contracts then
+ * take 128 bytes, which a compiler still copies in place. */
 typedef struct zelvorm_contract {
     uint32_t multiplier;
     uint32_t tick;
@@ -350,7 +350,7 @@ ZELVORM_ASSERT(offsetof(zelvorm_holding, short_) == 4);
 ZELVORM_ASSERT(offsetof(zelvorm_holding, startlong) == 8);
 ZELVORM_ASSERT(offsetof(zelvorm_holding, startshort) == 12);
 
-/* `maker` is 1 for a market maker and 0 for others. */
+/* `maker` is 1 for a market maker and 0 for others, as the C interface has it. */
 typedef struct zelvorm_account {
     int64_t balance;
     zelvorm_holding holdings[4];
@@ -408,7 +408,7 @@ ZELVORM_ASSERT(offsetof(zelvorm_opened, first) == 8);
 ZELVORM_ASSERT(offsetof(zelvorm_opened, commands) == 16);
 ZELVORM_ASSERT(offsetof(zelvorm_opened, state) == 24);
 
-/* A command's 24 bytes, field by field. */
+/* A command's 24 bytes, field by field, whatever they hold: `command_of` reads the kind and the flags. */
 typedef struct zelvorm_record {
     uint8_t kind;
     uint8_t account;
@@ -482,8 +482,8 @@ ZELVORM_ASSERT(sizeof(zelvorm_ran) == 2800);
 ZELVORM_ASSERT(offsetof(zelvorm_ran, played) == 0);
 ZELVORM_ASSERT(offsetof(zelvorm_ran, state) == 8);
 
-/* 0, or the code that refuses the whole bundle, and the state after it. Bytes 4 to 7 are padding: no answer depends on
- * them, and what they hold after a call is not promised. */
+/* 0, or the code that refuses the whole bundle, and the state after it. The C interface needs the code's number. Bytes
+ * 4 to 7 are padding: no answer depends on them, and what they hold after a call is not promised. */
 typedef struct zelvorm_receipt {
     uint32_t code;
     zelvorm_state state;
@@ -493,7 +493,8 @@ ZELVORM_ASSERT(sizeof(zelvorm_receipt) == 2800);
 ZELVORM_ASSERT(offsetof(zelvorm_receipt, code) == 0);
 ZELVORM_ASSERT(offsetof(zelvorm_receipt, state) == 8);
 
-/* The code, the lots that would trade, and the number of resting orders read to know it. */
+/* The code, the lots that would trade, and the number of resting orders read to know it. The C interface needs the
+ * code's number, 0 for none. */
 typedef struct zelvorm_reading {
     uint32_t code;
     uint32_t lots;
@@ -563,8 +564,9 @@ ZELVORM_ASSERT(offsetof(zelvorm_loaded, state) == 8);
 
 /* What a call printed: 0, or 21 where the state is not well formed, 29 where the buffer cannot hold the longest lines
  * of one command; nothing is printed then. `length` bytes from the buffer's start are the part. `next` is the place of
- * the next command, from 0, and with `state` goes into the next call, if there is more. Bytes 4 to 7 and 25 to 31 are
- * padding: no answer depends on them, and what they hold after a call is not promised. */
+ * the next command, from 0, and with `state` goes into the next call, if there is more. The C interface needs the
+ * code's number and a flag. Bytes 4 to 7 and 25 to 31 are padding: no answer depends on them, and what they hold after
+ * a call is not promised. */
 typedef struct zelvorm_printed {
     uint32_t code;
     size_t length;
@@ -581,7 +583,7 @@ ZELVORM_ASSERT(offsetof(zelvorm_printed, more) == 24);
 ZELVORM_ASSERT(offsetof(zelvorm_printed, state) == 32);
 
 /* A resting order: its remaining lots, the account's place, 1 for a close and 0 for an open, its time stamp, 1 where it
- * is part of a quote and 0 elsewhere. */
+ * is part of a quote and 0 elsewhere: each a word of the lent area. */
 typedef struct zelvorm_order {
     uint32_t price;
     uint32_t number;
@@ -602,7 +604,7 @@ ZELVORM_ASSERT(offsetof(zelvorm_order, stamp) == 20);
 ZELVORM_ASSERT(offsetof(zelvorm_order, quote) == 24);
 
 /* A trade: the contract's place, the two orders' numbers, the two accounts' places, and for each leg 1 for a close and
- * 0 for an open. */
+ * 0 for an open: each a word of the lent area. */
 typedef struct zelvorm_trade {
     uint32_t contract;
     uint32_t price;

@@ -270,8 +270,8 @@ pub const fn code_words(code: u32) -> &'static str {
 }
 
 /// A contract's terms for the day, with the number of its pairing method, its phase (the paper's contract state) and
-/// its last price. Rate and method are as wide as in the day file: four contracts then take 128 bytes, which a compiler
-/// still copies in place.
+/// its last price. Both numbers are the C interface's. Rate and method are as wide as in the day file: four contracts
+/// then take 128 bytes, which a compiler still copies in place.
 #[repr(C)]
 #[derive(Clone, Copy, Debug, PartialEq)]
 pub struct Contract {
@@ -300,7 +300,7 @@ pub struct Holding {
 
 const _: () = assert!(size_of::<Holding>() == 16);
 
-/// `maker` is 1 for a market maker and 0 for others.
+/// `maker` is 1 for a market maker and 0 for others, as the C interface has it.
 #[repr(C)]
 #[derive(Clone, Copy, Debug, PartialEq)]
 pub struct Account {
@@ -345,7 +345,7 @@ pub struct Opened {
 
 const _: () = assert!(size_of::<Opened>() == 2816);
 
-/// A command's 24 bytes, field by field.
+/// A command's 24 bytes, field by field, whatever they hold: `command_of` reads the kind and the flags.
 #[repr(C)]
 #[derive(Clone, Copy, Debug, PartialEq)]
 pub struct Record {
@@ -408,7 +408,7 @@ pub struct Ran {
 
 const _: () = assert!(size_of::<Ran>() == 2800);
 
-/// 0, or the code that refuses the whole bundle, and the state after it.
+/// 0, or the code that refuses the whole bundle, and the state after it. The C interface needs the code's number.
 #[repr(C)]
 #[derive(Clone, Copy, Debug, PartialEq)]
 pub struct Receipt {
@@ -418,7 +418,8 @@ pub struct Receipt {
 
 const _: () = assert!(size_of::<Receipt>() == 2800);
 
-/// The code, the lots that would trade, and the number of resting orders read to know it.
+/// The code, the lots that would trade, and the number of resting orders read to know it. The C interface needs the
+/// code's number, 0 for none.
 #[repr(C)]
 #[derive(Clone, Copy, Debug, PartialEq)]
 pub struct Reading {
@@ -482,7 +483,8 @@ const _: () = assert!(size_of::<Loaded>() == 2800);
 
 /// What a call printed: 0, or 21 where the state is not well formed, 29 where the buffer cannot hold the longest lines
 /// of one command; nothing is printed then. `length` bytes from the buffer's start are the part. `next` is the place of
-/// the next command, from 0, and with `state` goes into the next call, if there is more.
+/// the next command, from 0, and with `state` goes into the next call, if there is more. The C interface needs the
+/// code's number and a flag.
 #[repr(C)]
 #[derive(Clone, Copy, Debug, PartialEq)]
 pub struct Printed {
@@ -496,7 +498,7 @@ pub struct Printed {
 const _: () = assert!(size_of::<Printed>() == 2824);
 
 /// A resting order: its remaining lots, the account's place, 1 for a close and 0 for an open, its time stamp, 1 where
-/// it is part of a quote and 0 elsewhere.
+/// it is part of a quote and 0 elsewhere: each a word of the lent area.
 #[repr(C)]
 #[derive(Clone, Copy, Debug, PartialEq)]
 pub struct Order {
@@ -512,7 +514,7 @@ pub struct Order {
 const _: () = assert!(size_of::<Order>() == 28);
 
 /// A trade: the contract's place, the two orders' numbers, the two accounts' places, and for each leg 1 for a close and
-/// 0 for an open.
+/// 0 for an open: each a word of the lent area.
 #[repr(C)]
 #[derive(Clone, Copy, Debug, PartialEq)]
 pub struct Trade {

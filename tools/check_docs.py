@@ -4,7 +4,7 @@
 A name is what stands in backquotes: a path, a function (crate::module::function), or a word of the sources; text with spaces is an
 example and is passed over. A function must stand in that crate and module. In docs/RULES.md `File: name` must be defined in a file
 of that name; everywhere `name` (crate/specs/File) in just that file. A must-fail edit is CRATE/EDIT, with or without backquotes. Lines that say what is gone, and superseded decisions,
-speak of names that were. docs/PROOFS.md quotes the checker's own messages, so of it only edits are looked up; docs/CHANGES.md has the names of each landing's day and docs/PORT.md those of the older Rattle: both are passed over.
+speak of names that were. docs/PROOFS.md quotes the checker's own messages, so of it only edits are looked up; docs/CHANGES.md has the names of each landing's day, docs/PORT.md those of the older Rattle and docs/DESIGN-PASS.md what is gone: all three are passed over.
 
 With the folder that has the papers (00-*.md, the conditions, 01-*.md and 02-*.md; or its path in PAPERS) the quotations of
 docs/RULES.md, of the index of docs/DECISIONS.md and of the comments in crates/*/specs are held to their words, in RULES each sentence
@@ -354,7 +354,7 @@ def check_names():
     words, edits, crates = words_of(TOP), edits_of(TOP), crates_of(TOP)
     functions, defined = functions_of(TOP), definitions_of(TOP)
     for path in [os.path.join(TOP, "README.md")] + sorted(glob.glob(os.path.join(TOP, "docs", "*.md"))):
-        if path.endswith(("CHANGES.md", "PORT.md")):  # a landing's note has the names of its day, the port's page those of the older Rattle
+        if path.endswith(("CHANGES.md", "PORT.md", "DESIGN-PASS.md")):  # they have names that are gone
             continue
         text, is_rules, is_proofs = read(path), path == RULES, path.endswith("PROOFS.md")
         found = missing(text, words, edits, crates, not is_proofs)

@@ -933,21 +933,12 @@ class Aims(unittest.TestCase):
     """What the function proofs of this repository keep to."""
 
     ROOT = TOOL.parents[1]
-    # Crates that have answers by long ways or long lines: five that had them, and those whose proofs got longer names and paths with
-    # today's kit. A crate that has none leaves the list (`tools/proof name CRATE` mends it).
-    NOT_YET = (
-        "auction audit baskets book changing dayfile dayprofit engine insertion matching mending query "
-        "quoting refusals replaying runner saving statements "
-    ).split()
-    MOST_LINES = 18_100
+    MOST_LINES = 6_400
 
     def test_no_answer_counts_its_way_back_and_no_line_is_too_long(self):
         for crate in lengths.of_all(self.ROOT):
             faults = [f"{fault.path}:{fault.line}: {fault.what}" for fault in lengths.faults(self.ROOT, crate)]
-            if crate in self.NOT_YET:
-                self.assertNotEqual(faults, [], f"{crate} keeps to it now")
-            else:
-                self.assertEqual(faults, [])
+            self.assertEqual(faults, [], crate)
 
     def test_function_proofs_are_short(self):
         self.assertLessEqual(lengths.total(lengths.of_all(self.ROOT)).function_lines, self.MOST_LINES)

@@ -259,8 +259,8 @@ CODE_WORDS = {
 
 
 # A contract's terms for the day, with the number of its pairing method, its phase (the paper's contract state) and its
-# last price. Rate and method are as wide as in the day file: four contracts then take 128 bytes, which a compiler still
-# copies in place.
+# last price. Both numbers are the C interface's. Rate and method are as wide as in the day file: four contracts then
+# take 128 bytes, which a compiler still copies in place.
 class Contract(ctypes.Structure):
     _fields_ = [
         ("multiplier", ctypes.c_uint32),
@@ -291,7 +291,7 @@ class Holding(ctypes.Structure):
 assert ctypes.sizeof(Holding) == 16
 
 
-# `maker` is 1 for a market maker and 0 for others.
+# `maker` is 1 for a market maker and 0 for others, as the C interface has it.
 class Account(ctypes.Structure):
     _fields_ = [
         ("balance", ctypes.c_int64),
@@ -339,7 +339,7 @@ class Opened(ctypes.Structure):
 assert ctypes.sizeof(Opened) == 2816
 
 
-# A command's 24 bytes, field by field.
+# A command's 24 bytes, field by field, whatever they hold: `command_of` reads the kind and the flags.
 class Record(ctypes.Structure):
     _fields_ = [
         ("kind", ctypes.c_uint8),
@@ -407,7 +407,7 @@ class Ran(ctypes.Structure):
 assert ctypes.sizeof(Ran) == 2800
 
 
-# 0, or the code that refuses the whole bundle, and the state after it.
+# 0, or the code that refuses the whole bundle, and the state after it. The C interface needs the code's number.
 class Receipt(ctypes.Structure):
     _fields_ = [
         ("code", ctypes.c_uint32),
@@ -418,7 +418,8 @@ class Receipt(ctypes.Structure):
 assert ctypes.sizeof(Receipt) == 2800
 
 
-# The code, the lots that would trade, and the number of resting orders read to know it.
+# The code, the lots that would trade, and the number of resting orders read to know it. The C interface needs the
+# code's number, 0 for none.
 class Reading(ctypes.Structure):
     _fields_ = [
         ("code", ctypes.c_uint32),
@@ -488,7 +489,8 @@ assert ctypes.sizeof(Loaded) == 2800
 
 # What a call printed: 0, or 21 where the state is not well formed, 29 where the buffer cannot hold the longest lines of
 # one command; nothing is printed then. `length` bytes from the buffer's start are the part. `next` is the place of the
-# next command, from 0, and with `state` goes into the next call, if there is more.
+# next command, from 0, and with `state` goes into the next call, if there is more. The C interface needs the code's
+# number and a flag.
 class Printed(ctypes.Structure):
     _fields_ = [
         ("code", ctypes.c_uint32),
@@ -503,7 +505,7 @@ assert ctypes.sizeof(Printed) == 2824
 
 
 # A resting order: its remaining lots, the account's place, 1 for a close and 0 for an open, its time stamp, 1 where it
-# is part of a quote and 0 elsewhere.
+# is part of a quote and 0 elsewhere: each a word of the lent area.
 class Order(ctypes.Structure):
     _fields_ = [
         ("price", ctypes.c_uint32),
@@ -520,7 +522,7 @@ assert ctypes.sizeof(Order) == 28
 
 
 # A trade: the contract's place, the two orders' numbers, the two accounts' places, and for each leg 1 for a close and 0
-# for an open.
+# for an open: each a word of the lent area.
 class Trade(ctypes.Structure):
     _fields_ = [
         ("contract", ctypes.c_uint32),

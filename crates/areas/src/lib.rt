@@ -10,11 +10,8 @@ pub fn move_back(part: &mut [u32], w: usize)
     requires { w ≤ length part.old }
     ensures { part.new ≡ moved_back w part.old }
 {
-    let mut i = part.len();
-    while w < i {
-        i -= 1;
-        part[i] = part[i - w];
-    }
+    let kept = part.len() - w;
+    part.copy_within(..kept, w);
 }
 
 // All but the first w words move forward by w. Requires w words or more.
@@ -22,23 +19,14 @@ pub fn move_forward(part: &mut [u32], w: usize)
     requires { w ≤ length part.old }
     ensures { part.new ≡ moved_forward w part.old }
 {
-    let n = part.len() - w;
-    let mut i: usize = 0;
-    while i < n {
-        part[i] = part[i + w];
-        i += 1;
-    }
+    part.copy_within(w.., 0);
 }
 
 // Sets every word to zero.
 pub fn clear(part: &mut [u32])
     ensures { part.new ≡ replicate (length part.old) 0 }
 {
-    let mut i: usize = 0;
-    while i < part.len() {
-        part[i] = 0;
-        i += 1;
-    }
+    part.fill(0);
 }
 
 // Takes the first w words out: the others move to the front, and zeros follow. Requires w words or more.

@@ -8,7 +8,7 @@ use Rattle.theory.proofs.Codecs.{length_queue, put_queue_lem}
 use Rattle.book.proofs.Trading.{all_booked}
 use Rattle.auction.specs.Matched.{FillsIs, MatchReady, MatchedIs, level_match}
 use Rattle.auction.specs.Price.{chosen_level}
-use Rattle.auction.specs.declared.matched.Fills.{Fills}
+use Rattle.auction.specs.declared.matched.Match.{Match}
 use Rattle.auction.specs.declared.price.Level.{Level}
 
 module _ (c : ℕ) (level : Level) (buys sells : List Order) where
@@ -61,9 +61,9 @@ module _ (level : Level) {c : ℕ} {held : List Account} {buys : List ℕ} {boug
     pub ready_at : MatchReady (match_at c level.price bids asks) c held buys bought sells sold area before
     ready_at = rw (level_some c level bids asks some) at ready
 
-    -- the filled orders are taken out of both queues; k is the contract's place as the code widens it
-    module _ {last : ℕ} {f : Fills} {buys₁ sells₁ area' : List ℕ} (fd : FillsIs (match_at c level.price bids asks) c last held buys bought sells sold area before f buys₁ sells₁ area') {k : ℕ} (ek : k ≡ c) where
-      pub queues_left : {buys' sells' : List ℕ} → buys' ≡ put_queue buys₁ k bought (drop f.bought (queue_in buys₁ k bought)) → sells' ≡ put_queue sells₁ k sold (drop f.sold (queue_in sells₁ k sold))
+    -- the filled orders are taken out of both queues
+    module _ {last : ℕ} {f : Match} {buys₁ sells₁ area' : List ℕ} (fd : FillsIs (match_at c level.price bids asks) c last held buys bought sells sold area before f buys₁ sells₁ area') where
+      pub queues_left : {buys' sells' : List ℕ} → buys' ≡ put_queue buys₁ c bought (drop f.bought (queue_in buys₁ c bought)) → sells' ≡ put_queue sells₁ c sold (drop f.sold (queue_in sells₁ c sold))
           → MatchedIs (level_match c level bids asks) c last held buys bought sells sold area before
           (record { accounts = f.accounts; traded = f.traded; last = f.last; bought = bought - f.bought; sold = sold - f.sold; made = f.made }) buys' sells' area'
       queues_left eb es =
@@ -72,6 +72,6 @@ module _ (level : Level) {c : ℕ} {held : List Account} {buys : List ℕ} {boug
             booked = fd.booked;
             bought = omega (arith, fd.bought.count);
             sold = omega (arith, fd.sold.count);
-            buy_queue = eb ∙ rw ek fd.bought.dropped;
-            sell_queue = es ∙ rw ek fd.sold.dropped;
+            buy_queue = eb ∙ fd.bought.dropped;
+            sell_queue = es ∙ fd.sold.dropped;
           })

@@ -1,12 +1,12 @@
 -- The match's loop: what it ends with if from here on it goes by the rules, a turn that keeps this, and each way out of the loop.
 -- Assumes nothing.
-use Rattle.laws.specs.Logic.{true, false, ◌&&◌, List, [], ◌∷◌, ◌≡◌, refl, sym, ap, subst, ◌∙◌}
+use Rattle.laws.specs.Logic.{Bool, true, false, ◌&&◌, List, [], ◌∷◌, ◌≡◌, refl, sym, ap, subst, ◌∙◌}
 use Rattle.laws.specs.Numbers.{ℕ, ◌+◌, ◌-◌, ◌*◌, ◌<◌, ◌≤◌, min, arith, leb-true, ltb-true, le-leb, leb, ltb, length, get_or, set, drop}
 use Rattle.laws.specs.Choice.{all_of, both_true, true_both}
 use Rattle.areas.specs.Records.{store}
 use Rattle.areas.proofs.Records.{length_store}
 use Rattle.rules.specs.Auction.{Matched, after_match, less_first, match_at, paired, reaches, trade_at, unmatched}
-use Rattle.rules.specs.Bounds.{max_lots}
+use Rattle.rules.specs.Bounds.{max_lots, max_resting}
 use Rattle.rules.specs.Exchange.{no_order}
 use Rattle.rules.specs.Holdings.{book_trade}
 use Rattle.rules.specs.Matching.{with_lots}
@@ -43,10 +43,6 @@ pub record Meeting (buys : List ℕ) (bought : ℕ) (sells : List ℕ) (sold c p
   pub buy : b ≡ order_from (drop (first_word c i) buys)
   pub sell : s ≡ order_from (drop (first_word c j) sells)
   pub met : (reaches false price b && reaches true price s) ≡ true
-
--- the trade, in the terms of the contract's place
-pub trade_here : {c contract : ℕ} (price : ℕ) (b s : Order) {tr : Trade} → c ≡ contract → tr ≡ trade_at contract price (paired b s) b s → tr ≡ trade_at c price (paired b s) b s
-trade_here price b s ec e = rw ec e
 
 -- an order fits with fewer lots too
 fits_fewer : (used : ℕ) → KeptWithFewer (fits used)
@@ -91,13 +87,12 @@ pub record Going
   pub sells_stand : Stands (queue_in sells₀ c sold) (match_at c price (queue_in buys₀ c bought) (queue_in sells₀ c sold)).trades (queue_in sells c sold) j
       (match_at c price (drop i (queue_in buys c bought)) (drop j (queue_in sells c sold))).trades
 
--- it begins; the contract's place is c
-pub going : {c contract price : ℕ} {held : List Account} {buys : List ℕ} {bought : ℕ} {sells : List ℕ} {sold : ℕ} {area : List ℕ} {before : ℕ} (last : ℕ) → c ≡ contract
-    → MatchReady (match_at contract price (queue_in buys contract bought) (queue_in sells contract sold)) contract held buys bought sells sold area before
+-- it begins
+pub going : {c price : ℕ} {held : List Account} {buys : List ℕ} {bought : ℕ} {sells : List ℕ} {sold : ℕ} {area : List ℕ} {before : ℕ} (last : ℕ)
+    → MatchReady (match_at c price (queue_in buys c bought) (queue_in sells c sold)) c held buys bought sells sold area before
     → Going c price last held buys bought sells sold area before buys sells area held last before 0 0 0
-going last ec ready =
-    rw ec
-    (record {
+going last ready =
+    record {
       buying = side_begins ready.queues.buys_room;
       selling = side_begins ready.queues.sells_room;
       long = refl;
@@ -108,7 +103,7 @@ going last ec ready =
       answer = refl;
       buys_stand = record { stands = refl };
       sells_stand = record { stands = refl };
-    })
+    }
 
 module _
     {c price last : ℕ} {held₀ : List Account} {buys₀ : List ℕ} {bought : ℕ} {sells₀ : List ℕ} {sold : ℕ} {area₀ : List ℕ} {before : ℕ}
@@ -135,26 +130,28 @@ module _
         sold = left_in g.selling (rw e at g.sells_stand) (ap (λ x. x.sells) o);
       }
 
-  -- the loop is left before a trade, in the terms of the contract whose place is c
-  module _ {contract : ℕ} (ec : c ≡ contract) where
-    abbrev Stopped : Type 0
-    Stopped =
-        FillsIs (match_at contract price (queue_in buys₀ contract bought) (queue_in sells₀ contract sold)) contract last held₀ buys₀ bought sells₀ sold area₀ before
-        (record { accounts = held; traded = done; last = latest; bought = i; sold = j; made = made }) buys sells area
+  -- the loop is left before a trade
+  abbrev Stopped : Type 0
+  Stopped = FillsIs all c last held₀ buys₀ bought sells₀ sold area₀ before (record { accounts = held; traded = done; last = latest; bought = i; sold = j; made = made }) buys sells area
 
-    pub stopped_buys : i ≡ bought → Stopped
-    stopped_buys e = rw (← ec) (finished (rw (no_more buys c bought i (omega arith)) (no_buys c price (drop j asks))))
+  pub stopped_buys : i ≡ bought → Stopped
+  stopped_buys e = finished (rw (no_more buys c bought i (omega arith)) (no_buys c price (drop j asks)))
 
-    pub stopped_sells : j ≡ sold → Stopped
-    stopped_sells e = rw (← ec) (finished (rw (no_more sells c sold j (omega arith)) (no_sells c price (drop i bids))))
+  pub stopped_sells : j ≡ sold → Stopped
+  stopped_sells e = finished (rw (no_more sells c sold j (omega arith)) (no_sells c price (drop i bids)))
 
-    pub stopped_unmet : {b s : Order} → i < bought → j < sold → b ≡ order_from (drop (first_word c i) buys) → s ≡ order_from (drop (first_word c j) sells)
-        → (reaches false price b && reaches true price s) ≡ false → Stopped
-    stopped_unmet {b} {s} hb hs eb es e =
-        rw (← ec)
-        (finished (rw (next_order buys c bought i b hb eb, next_order sells c sold j s hs es) (unmet c price b (drop (i + 1) bids) s (drop (j + 1) asks) e)))
+  pub stopped_unmet : {b s : Order} → i < bought → j < sold → b ≡ order_from (drop (first_word c i) buys) → s ≡ order_from (drop (first_word c j) sells)
+      → (reaches false price b && reaches true price s) ≡ false → Stopped
+  stopped_unmet {b} {s} hb hs eb es e =
+      finished (rw (next_order buys c bought i b hb eb, next_order sells c sold j s hs es) (unmet c price b (drop (i + 1) bids) s (drop (j + 1) asks) e))
 
   -- ---- a turn that trades
+
+  -- from the tests that code makes before it: both queues have an order there
+  pub meeting : (i ≡ bought → ⊥) → (j ≡ sold → ⊥) → {b s : Order} {r : Bool} → b ≡ order_from (drop (first_word c i) buys) → s ≡ order_from (drop (first_word c j) sells)
+      → r ≡ (reaches false price b && reaches true price s) → r ≡ true → Meeting buys bought sells sold c price i j b s
+  meeting hb hs eb es er met =
+      record { buy_here = omega (arith, g.buying.within); sell_here = omega (arith, g.selling.within); buy = eb; sell = es; met = sym er ∙ met }
 
   module _ {b s : Order} {tr : Trade} (m : Meeting buys bought sells sold c price i j b s) (et : tr ≡ trade_at c price (paired b s) b s) where
     next_buy : drop i bids ≡ b ∷ drop (i + 1) bids
@@ -192,6 +189,10 @@ module _
     pub trade_few : tr.lots ≤ 1_000
     trade_few = omega (arith, trade_size, (first_fits b (drop (i + 1) bids) buys_fit).1)
 
+    -- at most 64 orders rest on a side
+    pub trade_total : bought ≤ max_resting → sold ≤ max_resting → done + tr.lots ≤ 128_000
+    trade_total hb hs = omega (arith, trade_few, g.some, m.buy_here, m.sell_here)
+
     pub trade_parties : (tr.buyer < g.parties.used) × (tr.seller < g.parties.used)
     unfolding trade_at
     trade_parties = rw et ((first_fits b (drop (i + 1) bids) buys_fit).0, (first_fits s (drop (j + 1) asks) sells_fit).0)
@@ -218,11 +219,10 @@ module _
     sells_stood = rw turn at g.sells_stand
 
     -- the area has room for it
-    pub trade_room : {contract : ℕ} → c ≡ contract → MatchReady (match_at contract price (queue_in buys₀ contract bought) (queue_in sells₀ contract sold)) contract held₀ buys₀ bought sells₀ sold area₀ before → trade_stride * made + trade_stride ≤ length area
+    pub trade_room : MatchReady (match_at c price (queue_in buys₀ c bought) (queue_in sells₀ c sold)) c held₀ buys₀ bought sells₀ sold area₀ before → trade_stride * made + trade_stride ≤ length area
     unfolding finish
-    trade_room ec ready =
-        let h : trade_stride * (before + length all.trades) ≤ length area₀ = rw ec ready.room in
-        omega (arith, ap (λ x. x.booked.made) g.answer, still_made done made latest held area (match_at c price (drop i bids) (drop j asks)).trades, still_made 0 before last held₀ area₀ all.trades, ap (λ x. length x.trades) turn, g.long)
+    trade_room ready =
+        omega (arith, ready.room, ap (λ x. x.booked.made) g.answer, still_made done made latest held area (match_at c price (drop i bids) (drop j asks)).trades, still_made 0 before last held₀ area₀ all.trades, ap (λ x. length x.trades) turn, g.long)
 
     module _ (room : trade_stride * made + trade_stride ≤ length area) {held' : List Account} (eh : held' ≡ book_trade held tr) {area' : List ℕ} (ea : area' ≡ store trade_words area (trade_stride * made) (tr ∷ [])) where
       -- it goes on with the two sides as they are then

@@ -2,16 +2,14 @@
 use Rattle.std.specs.Prelude.{Bool, true, ◌&&◌, List, [], ◌∷◌, ◌≡◌, ℕ, ◌+◌, ◌-◌, ◌*◌, ◌<◌, ◌≤◌, leb, ltb, length, drop}
 use Rattle.laws.specs.Choice.{all_of, pick}
 use Rattle.rules.specs.Auction.{Matched, match_at, unmatched}
-use Rattle.rules.specs.Bounds.{max_lots, max_contracts, max_accounts}
+use Rattle.rules.specs.Bounds.{max_lots, max_contracts, max_accounts, max_resting}
 use Rattle.rules.specs.Matching.{with_lots}
-use Rattle.rules.specs.Memory.{queue_in, put_queue, trade_stride}
+use Rattle.rules.specs.Memory.{first_word, queue_in, put_queue, trade_stride}
 use Rattle.rules.specs.declared.Account.{Account}
 use Rattle.rules.specs.declared.Order.{Order}
 use Rattle.rules.specs.declared.Trade.{Trade}
 use Rattle.holdings.specs.Bounds.{HeldWithin, held_most}
 use Rattle.book.specs.Trading.{AllBooked}
-use Rattle.auction.specs.Price.{QueuesRoom}
-use Rattle.auction.specs.declared.matched.Fills.{Fills}
 use Rattle.auction.specs.declared.matched.Match.{Match}
 use Rattle.auction.specs.declared.price.Level.{Level}
 
@@ -26,6 +24,13 @@ pub record MatchParties (b c : ℕ) (held : List Account) (buys sells : List Ord
   pub buyers : all_of (fits used) buys ≡ true
   pub sellers : all_of (fits used) sells ≡ true
   pub holdings : HeldWithin b used c held
+
+-- two queues of at most 64 orders, with room in their areas
+pub record QueuesRoom (buys : List ℕ) (bought : ℕ) (sells : List ℕ) (sold c : ℕ) : Type 0 where
+  pub few_buys : bought ≤ max_resting
+  pub few_sells : sold ≤ max_resting
+  pub buys_room : first_word c bought ≤ length buys
+  pub sells_room : first_word c sold ≤ length sells
 
 -- a contract that exists, room for the queues and for the trades, and accounts whose holdings are not near their width
 pub record MatchReady
@@ -52,7 +57,7 @@ pub record LeftIn (trades : List Trade) (queue : List Order) (area : List ℕ) (
 -- the answer, and the three areas: what the trades leave, and the rest of each queue behind its filled orders
 pub record FillsIs
     (m : Matched) (c last : ℕ) (held : List Account) (buys : List ℕ) (bought₀ : ℕ) (sells : List ℕ) (sold₀ : ℕ) (area : List ℕ) (before : ℕ)
-    (r : Fills) (buys' sells' area' : List ℕ) : Type 0 where
+    (r : Match) (buys' sells' area' : List ℕ) : Type 0 where
   pub booked : AllBooked m.trades before last held area r.traded r.made r.last r.accounts area'
   pub bought : LeftIn m.trades m.buys buys c bought₀ r.bought buys'
   pub sold : LeftIn m.trades m.sells sells c sold₀ r.sold sells'

@@ -2,16 +2,13 @@
 use Rattle.std.specs.Prelude.{Bool, List, [], ◌∷◌, ℕ, ◌≤◌, ltb, length}
 use Rattle.rules.specs.Auction.{apart, best_from, better, chosen_price, larger, prices, resting_prices, smaller, surplus, volume}
 use Rattle.rules.specs.Bounds.{max_resting}
-use Rattle.rules.specs.Memory.{first_word}
 use Rattle.rules.specs.declared.Order.{Order}
 use Rattle.auction.specs.declared.price.Level.{Level}
 
--- two queues of at most 64 orders, with room in their areas
-pub record QueuesRoom (buys : List ℕ) (bought : ℕ) (sells : List ℕ) (sold c : ℕ) : Type 0 where
-  pub few_buys : bought ≤ max_resting
-  pub few_sells : sold ≤ max_resting
-  pub buys_room : first_word c bought ≤ length buys
-  pub sells_room : first_word c sold ≤ length sells
+-- two queues of at most 64 orders
+pub record FewOrders (buys sells : List Order) : Type 0 where
+  pub few_buys : length buys ≤ max_resting
+  pub few_sells : length sells ≤ max_resting
 
 abbrev pub level_at : List Order → List Order → ℕ → Level
 level_at buys sells price = record { price = price; volume = volume buys sells price; surplus = surplus buys sells price }

@@ -1,7 +1,7 @@
 -- The laws that the proofs of this crate apply. Assumes nothing.
 pub mod Clauses
 pub mod FieldLists
-pub mod Limits
+pub mod Iterated
 pub mod MarkedOrders
 pub mod Remainders
 pub mod Replaying

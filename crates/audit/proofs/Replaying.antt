@@ -1,5 +1,6 @@
 -- From the replay of the day's trades over the starting holdings to the rule's answer. Assumes nothing.
-use Rattle.laws.specs.Logic.{Bool, true, false, List, ◌≡◌, sym, ap, ◌∙◌}
+use Rattle.std.specs.Prelude.{Option, Some, None, is_some}
+use Rattle.laws.specs.Logic.{Bool, false, List, ◌≡◌, sym, ap, ◌∙◌}
 use Rattle.laws.specs.Numbers.{ℕ, ◌*◌, ◌<◌, ◌≤◌, length, get_or}
 use Rattle.rules.specs.Bounds.{max_trades}
 use Rattle.rules.specs.Exchange.{holding_at, no_trade}
@@ -8,7 +9,6 @@ use Rattle.rules.specs.Memory.{recorded_trades, used, trade_stride}
 use Rattle.rules.specs.WellFormed.{replays}
 use Rattle.rules.specs.declared.{Account.Account, Trade.Trade}
 use Rattle.replaying.specs.Parts.{Booked, Replayable, ReplayIs}
-use Rattle.replaying.specs.declared.Held.{Held}
 use Rattle.replaying.proofs.Started.{start_at, used_day}
 use Rattle.audit.specs.Parts.{replayed}
 
@@ -29,17 +29,15 @@ module _ (list : List Account) (k n : ℕ) (area : List ℕ) (count : ℕ) {star
   used_start : used k n start ≡ start_of_day (used k n list)
   used_start = ap (used k n) e ∙ used_day k n list
 
-  module _ {h : Held} (r : ReplayIs start k n area count h) where
-    covered_is : h.covered ≡ never_below_zero (start_of_day (used k n list)) day
-    covered_is = r.covered ∙ ap (λ (l : List Account). never_below_zero l day) used_start
+  covered_is : {r : Option (List Account)} → ReplayIs start k n area count r → is_some r ≡ never_below_zero (start_of_day (used k n list)) day
+  covered_is q = q.covered ∙ ap (λ (l : List Account). never_below_zero l day) used_start
 
-    pub goes_below : h.covered ≡ false → false ≡ answer
-    unfolding replays
-    goes_below f = rw (sym covered_is ∙ f)
+  pub goes_below : ReplayIs start k n area count None → false ≡ answer
+  unfolding replays
+  goes_below q = rw (sym (covered_is q))
 
-    pub replayed_all : h.covered ≡ true → {b : Bool} → b ≡ same_holdings (used k n h.accounts) (used k n list) → b ≡ answer
-    unfolding replays
-    replayed_all t s =
-        let now : used k n h.accounts ≡ book_trades (start_of_day (used k n list)) day =
-        r.held t ∙ ap (λ (l : List Account). book_trades l day) used_start in
-        rw (sym covered_is ∙ t) (s ∙ ap (λ (l : List Account). same_holdings l (used k n list)) now)
+  pub replayed_all : {held : List Account} → ReplayIs start k n area count (Some held) → {b : Bool} → b ≡ same_holdings (used k n held) (used k n list) → b ≡ answer
+  unfolding replays
+  replayed_all {held} q s =
+      let now : used k n held ≡ book_trades (start_of_day (used k n list)) day = q.held ∙ ap (λ (l : List Account). book_trades l day) used_start in
+      rw (sym (covered_is q)) (s ∙ ap (λ (l : List Account). same_holdings l (used k n list)) now)

@@ -1,5 +1,5 @@
 -- A queue's resting lots summed by account in one pass. Assumes nothing.
-use Rattle.laws.specs.Logic.{Bool, true, false, ◌&&◌, List, ◌≡◌, refl, sym, ap, ◌∙◌}
+use Rattle.laws.specs.Logic.{Bool, true, false, ◌&&◌, List, ◌≡◌, refl, sym, ap, subst, ◌∙◌}
 use Rattle.laws.specs.Numbers.{ℕ, ◌+◌, ◌*◌, ◌<◌, ◌≤◌, arith, eqb-true, eqb-false, eq-eqb, ne_eqb, eqb, length, get_or, set, take, replicate, length-replicate}
 use Rattle.laws.specs.Numbers.{length-set, get_or-replicate, take_all, get_or-set_same, get_or-set_other}
 use Rattle.laws.specs.Choice.{pick, all_of_at, false_both, both_false, true_both}
@@ -18,6 +18,19 @@ pub orders_summable : (accounts next nextstamp : ℕ) (l : Listing) → accounts
 orders_summable accounts next nextstamp l few h sell i b =
     let k = order_ok accounts next nextstamp l.contract (get_or (own sell l) i no_order) (all_of_at (order_in_range accounts next nextstamp l.contract) (own sell l) i no_order ((listing_tested accounts next nextstamp l h).orders sell) b) in
     record { account = omega (arith, k.account); close = k.close; lots = k.lots_high }
+
+-- the order met at place i, with its account's place
+pub record Met (queue : List Order) (i : ℕ) (o : Order) : Type 0 where
+  pub it : get_or queue i no_order ≡ o
+  pub there : i < length queue
+  pub summable : Summable o
+  pub place : 2 * o.account + o.close < 2 * max_accounts
+
+pub met : {queue : List Order} {i : ℕ} {o : Order} → ((i : ℕ) → i < length queue → Summable (get_or queue i no_order)) → i < length queue
+    → o ≡ get_or queue i no_order → Met queue i o
+met {queue} {i} {o} summables l e =
+    let s : Summable o = subst (λ (o : Order). Summable o) (sym e) (summables i l) in
+    record { it = sym e; there = l; summable = s; place = omega (arith, s.account, s.close) }
 
 -- `lots` has the resting lots of the first i orders by account, the opens of each before its closes
 pub record Summing (queue : List Order) (i : ℕ) (lots : List ℕ) : Type 0 where

@@ -1,76 +1,32 @@
--- One queue read from its area in turn: sorted, uncrossed, each order in range. Assumes nothing.
-use Rattle.laws.specs.Logic.{Bool, true, false, List, [], ◌∷◌, ◌≡◌, refl, sym, ap, ◌∙◌}
-use Rattle.laws.specs.Numbers.{ℕ, ◌+◌, ◌<◌, ◌≤◌, arith, leb-true, leb-false, leb, ltb, drop}
-use Rattle.rules.specs.Memory.{order_from, queue_in, first_word}
-use Rattle.rules.specs.WellFormed.{ahead, ahead_of_first, sorted, uncrossed}
+-- A queue is sorted where each order is ahead of the one behind it. Assumes nothing.
+use Rattle.std.specs.List.{list_all, range_with_len}
+use Rattle.laws.specs.Logic.{Bool, List, [], ◌∷◌, ◌≡◌, refl}
+use Rattle.laws.specs.Numbers.{ℕ, zero, suc, ◌+◌, ◌-◌, arith, length, get_or}
+use Rattle.rules.specs.Exchange.{no_order}
+use Rattle.rules.specs.WellFormed.{ahead, ahead_of_first, sorted}
 use Rattle.rules.specs.declared.Order.{Order}
-use Rattle.book.proofs.Queues.{next_order, no_more}
-use Rattle.audit.proofs.Walks.{turn, stop, end}
 
--- ---- sorted: o and p are the orders at i and behind it
+-- tests of the numbers one further on
+one_on : (p r : ℕ → Bool) → ((i : ℕ) → p (suc i) ≡ r i) → (a k : ℕ) → list_all p (range_with_len (suc a) k) ≡ list_all r (range_with_len a k)
+one_on p r e a zero = refl
+one_on p r e a (suc k) = let s : suc a + 1 ≡ suc (a + 1) = omega arith in rw (s, e a, one_on p r e (a + 1) k) refl
 
-sorted_two : (sell : Bool) (o p : Order) (os : List Order) → ahead sell o p ≡ true → sorted sell (o ∷ p ∷ os) ≡ sorted sell (p ∷ os)
-unfolding sorted ahead_of_first
-sorted_two sell o p os h = rw h
+module _ (sell : Bool) where
+  -- the order before place i is ahead of that at i
+  abbrev pub in_order : List Order → ℕ → Bool
+  in_order q i = ahead sell (get_or q (i - 1) no_order) (get_or q i no_order)
 
-unsorted_two : (sell : Bool) (o p : Order) (os : List Order) → ahead sell o p ≡ false → sorted sell (o ∷ p ∷ os) ≡ false
-unfolding sorted ahead_of_first
-unsorted_two sell o p os h = rw h
+  abbrev next : List Order → ℕ → Bool
+  next q i = ahead sell (get_or q i no_order) (get_or q (suc i) no_order)
 
-sorted_one : (sell : Bool) (o : Order) → sorted sell (o ∷ []) ≡ true
-unfolding sorted ahead_of_first
-sorted_one sell o = refl
+  from_first : (o : Order) (os : List Order) → list_all (next (o ∷ os)) (range_with_len 0 (length os)) ≡ sorted sell (o ∷ os)
+  unfolding sorted ahead_of_first
+  from_first o [] = refl
+  from_first o (p ∷ os) = rw (one_on (next (o ∷ (p ∷ os))) (next (p ∷ os)) (λ i. refl) 0 (length os), from_first p os) refl
 
-sorted_none : (sell : Bool) → sorted sell [] ≡ true
-unfolding sorted
-sorted_none sell = refl
-
-module _ (sell : Bool) (area : List ℕ) (c n i : ℕ) {b : Bool} (so_far : b ≡ sorted sell (drop i (queue_in area c n))) where
-  module _ {o p : Order} (h : i + 1 < n) (eo : o ≡ order_from (drop (first_word c i) area)) (ep : p ≡ order_from (drop (first_word c (i + 1)) area)) where
-    two : drop i (queue_in area c n) ≡ o ∷ p ∷ drop (i + 1 + 1) (queue_in area c n)
-    two =
-        next_order area c n i o (omega arith) eo ∙ ap (λ (os : List Order). o ∷ os) (next_order area c n (i + 1) p h ep)
-
-    pub sorted_turn : ahead sell o p ≡ true → b ≡ sorted sell (drop (i + 1) (queue_in area c n))
-    sorted_turn k =
-        turn (sorted sell) (queue_in area c n) i so_far two (sorted_two sell o p _ k) ∙ ap (sorted sell) (sym (next_order area c n (i + 1) p h ep))
-
-    pub sorted_out : ahead sell o p ≡ false → false ≡ b
-    sorted_out k = stop (sorted sell) (queue_in area c n) i so_far two (unsorted_two sell o p _ k)
-
-  pub sorted_end : n ≤ i + 1 → true ≡ b
-  sorted_end h = by_end (leb n i) refl
-    where
-      by_end : (t : Bool) → leb n i ≡ t → true ≡ b
-      by_end true e = end (sorted sell) (queue_in area c n) i so_far (no_more area c n i (leb-true n i e)) (sorted_none sell)
-      by_end false e =
-          let o = order_from (drop (first_word c i) area) in
-          let one : drop i (queue_in area c n) ≡ o ∷ [] = next_order area c n i o (leb-false n i e) refl ∙ ap (λ (os : List Order). o ∷ os) (no_more area c n (i + 1) h) in
-          sym (so_far ∙ ap (sorted sell) one ∙ sorted_one sell o)
-
--- ---- uncrossed
-
-pub no_buys : (buys : List ℕ) (buycount c : ℕ) (sells : List Order) → buycount ≡ 0 → true ≡ uncrossed (queue_in buys c buycount) sells
-unfolding uncrossed
-no_buys buys buycount c sells e =
-    let q : queue_in buys c buycount ≡ [] = no_more buys c buycount 0 (omega arith) in
-    rw q
-
-uncrossed_none : (os : List Order) → true ≡ uncrossed os []
-unfolding uncrossed
-uncrossed_none [] = refl
-uncrossed_none (o ∷ os) = refl
-
-pub no_sells : (buys : List Order) (sells : List ℕ) (sellcount c : ℕ) → sellcount ≡ 0 → true ≡ uncrossed buys (queue_in sells c sellcount)
-no_sells buys sells sellcount c e =
-    let q : queue_in sells c sellcount ≡ [] = no_more sells c sellcount 0 (omega arith) in
-    rw q (uncrossed_none buys)
-
-pub best_apart : (buys : List ℕ) (buycount : ℕ) (sells : List ℕ) (sellcount c : ℕ) (b s : Order) → (buycount ≡ 0 → ⊥) → (sellcount ≡ 0 → ⊥)
-    → b ≡ order_from (drop (first_word c 0) buys) → s ≡ order_from (drop (first_word c 0) sells)
-    → ltb b.price s.price ≡ uncrossed (queue_in buys c buycount) (queue_in sells c sellcount)
-unfolding uncrossed
-best_apart buys buycount sells sellcount c b s nb ns eb es =
-    let qb : queue_in buys c buycount ≡ b ∷ drop 1 (queue_in buys c buycount) = next_order buys c buycount 0 b (omega arith) eb in
-    let qs : queue_in sells c sellcount ≡ s ∷ drop 1 (queue_in sells c sellcount) = next_order sells c sellcount 0 s (omega arith) es in
-    rw (qb, qs)
+  pub sorted_queue : (q : List Order) → list_all (in_order q) (range_with_len 1 (length q - 1)) ≡ sorted sell q
+  unfolding sorted
+  sorted_queue [] = refl
+  sorted_queue (o ∷ os) =
+      let e : length (o ∷ os) - 1 ≡ length os = omega arith in
+      rw (e, one_on (in_order (o ∷ os)) (next (o ∷ os)) (λ i. let s : suc i - 1 ≡ i = omega arith in rw s refl) 0 (length os)) (from_first o os)

@@ -1,10 +1,7 @@
--- Loops that walk a list or count up and leave at the first failure: `b` is the answer, and `f` of what is left of the list
--- still decides it. Assumes nothing.
-use Rattle.laws.specs.Logic.{Bool, true, false, List, [], ◌∷◌, ◌≡◌, refl, sym, ap, subst, ◌∙◌}
-use Rattle.laws.specs.Numbers.{ℕ, ◌+◌, ◌<◌, ◌≤◌, add-one, arith, length, get_or, take, drop, length-take, drop_of_length-le, length-take-le, drop-cons, get_or-take}
-use Rattle.laws.specs.Choice.{all, all_at, all_true, all_of, same_test}
-
--- ---- a count from 0 to n, with the test p of each number
+-- A count from 0 to n, with the test p of each number. Assumes nothing.
+use Rattle.laws.specs.Logic.{Bool, true, ◌≡◌, sym, subst}
+use Rattle.laws.specs.Numbers.{ℕ, ◌≤◌, arith}
+use Rattle.laws.specs.Choice.{all, all_at, all_true, same_test}
 
 pub all_end : (p : ℕ → Bool) {i n : ℕ} → all p i ≡ true → i ≤ n → n ≤ i → true ≡ all p n
 all_end p {i} {n} h l r =
@@ -17,44 +14,3 @@ all_swap p n m =
     same_test (all (λ a. all (λ c. p a c) m) n) (all (λ c. all (λ a. p a c) n) m)
     (λ t. all_true (λ c. all (λ a. p a c) n) m (λ c hc. all_true (λ a. p a c) n (λ a ha. all_at (λ c. p a c) c m (all_at (λ a. all (λ c. p a c) m) a n t ha) hc)))
     (λ t. all_true (λ a. all (λ c. p a c) m) n (λ a ha. all_true (λ c. p a c) m (λ c hc. all_at (λ a. p a c) a n (all_at (λ c. all (λ a. p a c) n) c m t hc) ha)))
-
--- ---- a list from its first element to its last
-
--- the element at i, and those behind it
-pub next_of : {A : Type 0} (l : List A) (i : ℕ) (d : A) → i < length l → drop i l ≡ get_or l i d ∷ drop (i + 1) l
-next_of l i d h = rw add-one (drop-cons l i d h)
-
--- the same of the first n elements
-pub next_in : {A : Type 0} (n : ℕ) (l : List A) (i : ℕ) (d : A) → i < n → n ≤ length l → drop i (take n l) ≡ get_or l i d ∷ drop (i + 1) (take n l)
-next_in n l i d h m = next_of (take n l) i d (rw (length-take-le n l m) h) ∙ ap (λ x. x ∷ drop (i + 1) (take n l)) (get_or-take n l i d h)
-
-pub none_in : {A : Type 0} (n : ℕ) (l : List A) (i : ℕ) → n ≤ i → drop i (take n l) ≡ []
-none_in n l i h = drop_of_length-le (take n l) {i = i} (rw length-take (omega arith))
-
--- b is what a test of the whole list answers, and f of what is left from place i on still decides it
-module _ {A : Type 0} (f : List A → Bool) (l : List A) (i : ℕ) {b : Bool} (so_far : b ≡ f (drop i l)) where
-  pub turn : {x : A} {rest : List A} → drop i l ≡ x ∷ rest → f (x ∷ rest) ≡ f rest → b ≡ f rest
-  turn e k = so_far ∙ ap f e ∙ k
-
-  pub stop : {x : A} {rest : List A} → drop i l ≡ x ∷ rest → f (x ∷ rest) ≡ false → false ≡ b
-  stop e k = sym (so_far ∙ ap f e ∙ k)
-
-  pub end : drop i l ≡ [] → f [] ≡ true → true ≡ b
-  end e k = sym (so_far ∙ ap f e ∙ k)
-
--- the same where the test is one of each element: a loop's invariant
-pub record Each {A : Type 0} (b : Bool) (p : A → Bool) (l : List A) (i : ℕ) : Type 0 where
-  pub rest : b ≡ all_of p (drop i l)
-
-module _ {A : Type 0} {b : Bool} {p : A → Bool} {l : List A} {i : ℕ} (so_far : Each b p l i) where
-  pub each_turn : {x : A} → drop i l ≡ x ∷ drop (i + 1) l → p x ≡ true → Each b p l (i + 1)
-  unfolding all_of
-  each_turn {x} e t = record { rest = turn (all_of p) l i so_far.rest e (rw t) }
-
-  pub each_out : {x : A} → drop i l ≡ x ∷ drop (i + 1) l → p x ≡ false → false ≡ b
-  unfolding all_of
-  each_out {x} e t = stop (all_of p) l i so_far.rest e (rw t)
-
-  pub each_end : drop i l ≡ [] → true ≡ b
-  unfolding all_of
-  each_end e = end (all_of p) l i so_far.rest e refl

@@ -4,10 +4,9 @@ use Rattle.laws.specs.Logic.{Bool, true, ◌&&◌, List, [], ◌∷◌, map, ◌
 use Rattle.laws.specs.Numbers.{ℕ, zero, suc, ◌*◌, ◌<◌, ◌≤◌, arith, leb-true, leb, length, get_or, take, length-map, length-replicate}
 use Rattle.laws.specs.Choice.{all, all_of, all_at, all_ext, all_of_at, all_of_ext, all_of_map, both_true}
 use Rattle.laws.specs.Tabulate.{tabulate, all_of_table, length_tabulate, get_d_tabulate}
-use Rattle.laws.specs.Tests.{Chain}
 use Rattle.rules.specs.Bounds.{within, terms_in_range}
 use Rattle.rules.specs.Exchange.{Exchange, Listing, listing_at, account_at, holding_at, no_contract, no_listing, no_trade}
-use Rattle.rules.specs.Memory.{Memory, exchange_of, in_use, listing_in, recorded_trades, counts_in_range, has_room, well_formed_memory, used, memory, trade_stride}
+use Rattle.rules.specs.Memory.{Memory, exchange_of, in_use, listing_in, recorded_trades, counts_in_range, has_room, used, memory, trade_stride}
 use Rattle.rules.specs.WellFormed.{counters_in_range, all_numbers, all_stamps, used_once, quotes, mark_allowed, queue_quoted, listing_quoted, mark_in_range, trade_in_range, replays, holding_in_range, holdings_in_range, balance_in_range, well_formed_contents}
 use Rattle.rules.specs.declared.{Account.Account, Order.Order, State.State, Trade.Trade}
 use Rattle.theory.proofs.Codecs.{length_trades}
@@ -47,13 +46,13 @@ quoted_in_use contracts l m = ap₂ (λ x y. x && y) (queue_in_use contracts l m
 -- ---- the tests
 
 module _ (s : State) (buys sells trades : List ℕ) where
-  abbrev m : Memory
+  abbrev pub m : Memory
   m = memory s buys sells trades
 
-  abbrev counters_test : Bool
+  abbrev pub counters_test : Bool
   counters_test = within 1 1_000_000 s.next && within 1 1_000_000 s.nextstamp && leb s.settlements 250
 
-  abbrev listings_test : Bool
+  abbrev pub listings_test : Bool
   listings_test = all (λ c. listing_in_range s.accountcount s.next s.nextstamp (listing s buys sells c)) s.contractcount
 
   abbrev numbers_test : Bool
@@ -71,13 +70,13 @@ module _ (s : State) (buys sells trades : List ℕ) where
   abbrev asked : Exchange
   asked = tested s.contracts s.contractcount s.accountcount s.next
 
-  abbrev trades_test : Bool
+  abbrev pub trades_test : Bool
   trades_test = all_of (trade_in_range asked) (recorded_trades trades s.tradecount)
 
   abbrev replay_test : Bool
   replay_test = replays (replayed (used s.contractcount s.accountcount s.accounts) (recorded_trades trades s.tradecount))
 
-  abbrev holdings_test : Bool
+  abbrev pub holdings_test : Bool
   holdings_test = all (λ a. all (λ c. holding_in_range (listing s buys sells c) a (holding_at s.accounts a c)) s.contractcount) s.accountcount
 
   abbrev balances_test : Bool
@@ -152,14 +151,9 @@ module _ (s : State) (buys sells trades : List ℕ) where
     unfolding exchange_of balance_in_range
     balances_same = all_of_map (balance_in_range s.settlements) (in_use s.contractcount) (take s.accountcount s.accounts)
 
-    pub contents_chain :
-        Chain (well_formed_contents (exchange_of m)) (counters_test ∷ listings_test ∷ numbers_test ∷ stamps_test ∷ quotes_test ∷ makers_test ∷ trades_test ∷ replay_test ∷ holdings_test ∷ []) balances_test
-    contents_chain = record { is = walked (exchange_of m) ∙ rw (counters_same, listings_same, numbers_same, stamps_same, quotes_same, makers_same, trades_same, replay_same, holdings_same, balances_same) refl }
-
--- the whole: counts and room before the contents
-pub whole_chain : (m : Memory) → Chain (well_formed_memory m) (counts_in_range m.state ∷ has_room m ∷ []) (well_formed_contents (exchange_of m))
-unfolding well_formed_memory
-whole_chain m = record { is = refl }
+    pub contents_tests : well_formed_contents (exchange_of m)
+        ≡ (counters_test && listings_test && numbers_test && stamps_test && quotes_test && makers_test && trades_test && replay_test && holdings_test && balances_test)
+    contents_tests = walked (exchange_of m) ∙ rw (counters_same, listings_same, numbers_same, stamps_same, quotes_same, makers_same, trades_same, replay_same, holdings_same, balances_same) refl
 
 -- ---- what a passed test gives the tests behind it
 

@@ -2,7 +2,7 @@
 -- Assumes nothing.
 use Rattle.std.specs.Prelude.{Bool, true, ◌&&◌, List, [], ◌≡◌, ℕ, ◌+◌, ◌*◌, ◌<◌, ◌≤◌, length, get_or, replicate}
 use Rattle.laws.specs.Tabulate.{tabulate}
-use Rattle.rules.specs.Bounds.{max_accounts, max_lots}
+use Rattle.rules.specs.Bounds.{max_accounts, max_contracts, max_lots, max_resting}
 use Rattle.rules.specs.Exchange.{Exchange, Listing, no_account, no_contract, resting}
 use Rattle.rules.specs.Memory.{counts_in_range, listing_in, memory, queue_stride}
 use Rattle.rules.specs.WellFormed.{contract_in_range, queues_sorted, orders_in_range}
@@ -57,3 +57,7 @@ tested contracts n accounts next =
 -- accounts and a day's trades alone, for the replay
 abbrev pub replayed : List Account → List Trade → Exchange
 replayed accounts trades = record { listings = []; accounts = accounts; trades = trades; next = 0; nextstamp = 1; settlements = 0 }
+
+-- all that the queues of all contracts hold
+abbrev pub max_listed : ℕ
+max_listed = 2 * max_resting * max_contracts

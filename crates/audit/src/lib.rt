@@ -21,53 +21,35 @@ fn contents_are_well_formed(state: State, buys: &[u32], sells: &[u32], trades: &
     requires { (counts_in_range state ≡ true) × (has_room (memory state buys.now sells.now trades.now) ≡ true) }
     ensures { result ≡ well_formed_contents (exchange_of (memory state buys.now sells.now trades.now)) }
 {
-    let next = state.next;
-    let nextstamp = state.nextstamp;
-    let settlements = state.settlements;
-    if !counts::counters_in_range(next, nextstamp, settlements) {
-        return false;
-    }
-    if !queues::listings_in_range(state, buys, sells) {
-        return false;
-    }
-    if !numbers::used_once(state, buys, sells, rules::NUMBER_WORD) {
-        return false;
-    }
-    if !numbers::used_once(state, buys, sells, rules::STAMP_WORD) {
-        return false;
-    }
-    if !quotes::listings_quoted(state, buys, sells) {
-        return false;
-    }
     let held = state.accounts;
-    let accountcount = state.accountcount;
-    if !accounts::marks_in_range(held, accountcount) {
-        return false;
-    }
+    let accounts = state.accountcount;
     let contracts = state.contractcount;
     let count = state.tradecount;
-    let list = state.contracts;
-    if !recorded::trades_in_range(list, contracts, accountcount, next, trades, count) {
-        return false;
-    }
-    if !accounts::holdings_in_range(state, buys, sells) {
-        return false;
-    }
-    if !replay::replays(held, contracts, accountcount, trades, count) {
-        return false;
-    }
-    accounts::balances_in_range(held, accountcount, settlements)
+    counts::counters_in_range(state.next, state.nextstamp, state.settlements)
+        && queues::listings_in_range(state, buys, sells)
+        && numbers::used_once(state, buys, sells, rules::NUMBER_WORD)
+        && numbers::used_once(state, buys, sells, rules::STAMP_WORD)
+        && quotes::listings_quoted(state, buys, sells)
+        && accounts::marks_in_range(held, accounts)
+        && recorded::trades_in_range(
+            state.contracts,
+            contracts,
+            accounts,
+            state.next,
+            trades,
+            count,
+        )
+        && accounts::holdings_in_range(state, buys, sells)
+        && replay::replays(held, contracts, accounts, trades, count)
+        && accounts::balances_in_range(held, accounts, state.settlements)
 }
 
 // "A state is well formed when": every clause of the paper, on any state and any areas.
+#[tactic(auto, unfolding(rules::specs::Memory::well_formed_memory))]
 pub fn well_formed(state: State, buys: &[u32], sells: &[u32], trades: &[u32]) -> bool
     ensures { result ≡ well_formed_memory (memory state buys.now sells.now trades.now) }
 {
-    if !counts::counts_in_range(state) {
-        return false;
-    }
-    if !counts::has_room(state, buys, sells, trades) {
-        return false;
-    }
-    contents_are_well_formed(state, buys, sells, trades)
+    counts::counts_in_range(state)
+        && counts::has_room(state, buys, sells, trades)
+        && contents_are_well_formed(state, buys, sells, trades)
 }

@@ -14,22 +14,15 @@ use rules::{Contract, Trade};
 fn order_numbers_in_range(t: Trade, next: u32) -> bool
     ensures { result ≡ (not (eqb t.buyorder t.sellorder) && leb 1 t.buyorder && ltb t.buyorder next && leb 1 t.sellorder && ltb t.sellorder next) }
 {
-    if t.buyorder == t.sellorder {
-        return false;
-    }
-    if t.buyorder < 1 {
-        return false;
-    }
-    if next <= t.buyorder {
-        return false;
-    }
-    if t.sellorder < 1 {
-        return false;
-    }
-    t.sellorder < next
+    t.buyorder != t.sellorder
+        && 1 <= t.buyorder
+        && t.buyorder < next
+        && 1 <= t.sellorder
+        && t.sellorder < next
 }
 
 // "existing contract and accounts, .. a price allowed today, 1 to 1,000 lots, and for each leg open or close"
+#[tactic(auto, using(crate::proofs::TestedTrades::trade_tested))]
 fn trade_in_range(
     list: [Contract; rules::MAX_CONTRACTS],
     contracts: usize,
@@ -40,31 +33,15 @@ fn trade_in_range(
     requires { (contracts ≤ max_contracts) × ((c : ℕ) → c < contracts → terms_in_range (get_or list c no_contract) ≡ true) }
     ensures { result ≡ trade_in_range (tested list contracts accounts next) t }
 {
-    let c = laws::wide(t.contract);
-    if contracts <= c {
-        return false;
-    }
-    let buyer = laws::wide(t.buyer);
-    if accounts <= buyer {
-        return false;
-    }
-    let seller = laws::wide(t.seller);
-    if accounts <= seller {
-        return false;
-    }
-    if !order_numbers_in_range(t, next) {
-        return false;
-    }
-    if !terms::allowed_today(list[c], t.price) {
-        return false;
-    }
-    if !terms::within(1, rules::MAX_LOTS, t.lots) {
-        return false;
-    }
-    if 1 < t.buyclose {
-        return false;
-    }
-    t.sellclose <= 1
+    let c = t.contract as usize;
+    c < contracts
+        && (t.buyer as usize) < accounts
+        && (t.seller as usize) < accounts
+        && order_numbers_in_range(t, next)
+        && terms::allowed_today(list[c], t.price)
+        && terms::within(1, rules::MAX_LOTS, t.lots)
+        && t.buyclose <= 1
+        && t.sellclose <= 1
 }
 
 pub fn trades_in_range(
@@ -79,13 +56,5 @@ pub fn trades_in_range(
     requires count_in_bounds { trade_stride * count ≤ length area.now }
     ensures { result ≡ all_of (trade_in_range (tested list contracts accounts next)) (recorded_trades area.now count) }
 {
-    let mut i: usize = 0;
-    while i < count {
-        let t = trades::trade_at(area, i);
-        if !trade_in_range(list, contracts, accounts, next, t) {
-            return false;
-        }
-        i += 1;
-    }
-    true
+    (0..count).all(|i| trade_in_range(list, contracts, accounts, next, trades::trade_at(area, i)))
 }

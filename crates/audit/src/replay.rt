@@ -25,22 +25,18 @@ fn start_holding(h: Holding) -> Holding
 fn start_account(a: Account) -> Account
     ensures { result ≡ holdings.start_account a }
 {
-    let mut b = a;
-    b.holdings[0] = start_holding(b.holdings[0]);
-    b.holdings[1] = start_holding(b.holdings[1]);
-    b.holdings[2] = start_holding(b.holdings[2]);
-    b.holdings[3] = start_holding(b.holdings[3]);
-    b
+    Account {
+        holdings: a.holdings.map(start_holding),
+        ..a
+    }
 }
 
 fn start_of_day(accounts: [Account; rules::MAX_ACCOUNTS]) -> [Account; rules::MAX_ACCOUNTS]
     ensures { result ≡ holdings.start_of_day accounts }
 {
     let mut held = accounts;
-    let mut i: usize = 0;
-    while i < rules::MAX_ACCOUNTS {
-        held[i] = start_account(held[i]);
-        i += 1;
+    for a in held.iter_mut() {
+        *a = start_account(*a);
     }
     held
 }
@@ -49,19 +45,9 @@ fn has_same_lots(a: Account, b: Account, contracts: usize) -> bool
     requires { contracts ≤ max_contracts }
     ensures { result ≡ holdings.same_lots (take contracts a.holdings) (take contracts b.holdings) }
 {
-    let mut c: usize = 0;
-    while c < contracts {
-        let h = a.holdings[c];
-        let k = b.holdings[c];
-        if h.long != k.long {
-            return false;
-        }
-        if h.short != k.short {
-            return false;
-        }
-        c += 1;
-    }
-    true
+    let held = a.holdings[..contracts].iter();
+    held.zip(b.holdings[..contracts].iter())
+        .all(|(h, k)| h.long == k.long && h.short == k.short)
 }
 
 fn have_same_holdings(
@@ -73,14 +59,9 @@ fn have_same_holdings(
     requires { (contracts ≤ max_contracts) × (accounts ≤ max_accounts) }
     ensures { result ≡ holdings.same_holdings (used contracts accounts list) (used contracts accounts others) }
 {
-    let mut a: usize = 0;
-    while a < accounts {
-        if !has_same_lots(list[a], others[a], contracts) {
-            return false;
-        }
-        a += 1;
-    }
-    true
+    let held = list[..accounts].iter();
+    held.zip(others[..accounts].iter())
+        .all(|(a, b)| has_same_lots(*a, *b, contracts))
 }
 
 pub fn replays(
@@ -96,10 +77,8 @@ pub fn replays(
     ensures { result ≡ wellformed.replays (replayed (used contracts accounts list) (recorded_trades area.now count)) }
 {
     let start = start_of_day(list);
-    let replayed = replaying::replay(start, contracts, accounts, area, count);
-    if !replayed.covered {
-        return false;
+    match replaying::replay(start, contracts, accounts, area, count) {
+        Some(held) => have_same_holdings(held, list, contracts, accounts),
+        None => false,
     }
-    let held = replayed.accounts;
-    have_same_holdings(held, list, contracts, accounts)
 }

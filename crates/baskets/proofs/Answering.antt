@@ -2,16 +2,16 @@
 use mathlib.Core.Bool.{Bool, true, false}
 use mathlib.Core.List.{List, [], ◌∷◌, ◌++◌}
 use mathlib.Core.Path.{◌≡◌, refl, sym, ap, ◌∙◌, subst}
-use Prim.Native.Nat.{ℕ, suc, ◌+◌, ◌*◌, ◌<◌, ◌≤◌}
+use Prim.Native.Nat.{ℕ, suc, ◌+◌, ◌*◌, ◌<◌}
 use native.Mathlib.Nat.{zero-add}
 use native.Mathlib.Numerals.{add-one}
 use native.Mathlib.Omega.{arith}
 use lib.ListN.{length, get_or, take}
-use lib.Seq.{sets, take_all, take-suc, length-take-le}
+use lib.Seq.{take_all, take-suc, length-take-le}
 use Rattle.laws.specs.Tabulate.{tabulate, get_d_tabulate, length_tabulate, tabulate_take}
 use Rattle.areas.specs.Records.{Codec, store}
-use Rattle.areas.proofs.Lists.{sets_over}
-use Rattle.areas.proofs.Records.{encode_one, store_append, store_nil}
+use Rattle.areas.specs.Lists.{over}
+use Rattle.areas.proofs.Records.{encode_one, store_append, store_nil, store_over}
 use Rattle.rules.specs.Condition3.{run}
 use Rattle.rules.specs.DayFile.{command_from, command_width}
 use Rattle.rules.specs.Memory.{Memory, respond, well_formed_memory}
@@ -27,14 +27,9 @@ pub answer_codec : Codec Answer answer_stride answer_words answer_from
 unfolding tabulate
 answer_codec = record { wide = λ a. refl; back = λ a ys. refl; forth = λ xs h. tabulate_take answer_stride xs 0 h }
 
--- four stores write an answer
-pub stored_answer : (area : List ℕ) (at : ℕ) (a : Answer) → at + answer_stride ≤ length area → sets area at (answer_words a) ≡ store answer_words area at (a ∷ [])
-unfolding store
-stored_answer area at a room = rw (encode_one answer_codec a) (sets_over area at (answer_words a) room)
-
--- an answer that is another
-pub put_as : (area : List ℕ) (at : ℕ) {a b : Answer} {after : List ℕ} → a ≡ b → after ≡ store answer_words area at (a ∷ []) → after ≡ store answer_words area at (b ∷ [])
-put_as area at e put = put ∙ ap (λ (v : Answer). store answer_words area at (v ∷ [])) e
+-- the four words of an answer
+pub stored_answer : (area : List ℕ) (at : ℕ) (a : Answer) → over area at (answer_words a) ≡ store answer_words area at (a ∷ [])
+stored_answer area at a = sym (store_over answer_codec area at (a ∷ []) ∙ ap (over area at) (encode_one answer_codec a))
 
 length_answers : (m : Memory) (cs : List Command) → length (answers_to m cs) ≡ length cs
 unfolding answers_to
@@ -89,49 +84,33 @@ module _ (m : Memory) (cs : List Command) (area : List ℕ) where
       ∙ sym (store_append answer_codec area 0 (answers_to m first) (a ∷ []) (omega arith))
       ∙ rw (longer m cs k h, same, last) refl
 
--- ---- the loop over a list: what it has come to at command k of n
+-- ---- the loop over a list: what it has come to at command k
 
--- the memory is the run of the first k commands, the area has their answers, and all areas are as long as they were
-pub record AnsweredTo (m : Memory) (cs : List Command) (area : List ℕ) (n k : ℕ) (m' : Memory) (now : List ℕ) : Type 0 where
-  pub within : k ≤ n
+-- the memory is the run of the first k commands, and the area has their answers
+pub record AnsweredTo (m : Memory) (cs : List Command) (area : List ℕ) (k : ℕ) (m' : Memory) (now : List ℕ) : Type 0 where
   pub ran : m' ≡ run m (take k cs)
   pub told : now ≡ answered m cs area k
-  pub buys : length m'.buys ≡ length m.buys
-  pub sells : length m'.sells ≡ length m.sells
-  pub trades : length m'.trades ≡ length m.trades
-  pub answers : length now ≡ length area
 
-pub answering_none : (m : Memory) (cs : List Command) (area : List ℕ) (n : ℕ) → AnsweredTo m cs area n 0 m area
-answering_none m cs area n =
-    record { within = omega arith; ran = none_ran m cs; told = none_answered m cs area; buys = refl; sells = refl; trades = refl; answers = refl }
+pub answering_none : (m : Memory) (cs : List Command) (area : List ℕ) → AnsweredTo m cs area 0 m area
+answering_none m cs area = record { ran = none_ran m cs; told = none_answered m cs area }
 
-module _ {m : Memory} {cs : List Command} {area : List ℕ} {n k : ℕ} {m' : Memory} {now : List ℕ} (w : AnsweredTo m cs area n k m' now) where
+module _ {m : Memory} {cs : List Command} {area : List ℕ} {k : ℕ} {m' : Memory} {now : List ℕ} (w : AnsweredTo m cs area k m' now) where
   pub still_known : (t : Bool) → t ≡ well_formed_memory m → t ≡ well_formed_memory m'
   still_known t e = formed_after m (take k cs) t e ∙ ap well_formed_memory (sym w.ran)
 
   -- one more command is answered
-  pub answering_more : k < n → n ≤ length cs → {c : Command} → get_or cs k Malformed ≡ c → {m'' : Memory} {after : List ℕ} → m'' ≡ (respond m' c).memory
-      → after ≡ store answer_words now (answer_stride * k) ((respond m' c).answer ∷ []) → length m''.buys ≡ length m'.buys → length m''.sells ≡ length m'.sells
-      → length m''.trades ≡ length m'.trades → length after ≡ length now → AnsweredTo m cs area n (k + 1) m'' after
-  answering_more l long same ran put buys sells trades answers =
-      record {
-        within = omega arith;
-        ran = one_ran m cs k (omega arith) same w.ran ran;
-        told = one_answered m cs area k (omega arith) same w.ran w.told put;
-        buys = buys ∙ w.buys;
-        sells = sells ∙ w.sells;
-        trades = trades ∙ w.trades;
-        answers = answers ∙ w.answers;
-      }
+  pub answering_more : k < length cs → {c : Command} → get_or cs k Malformed ≡ c → {m'' : Memory} {after : List ℕ} → m'' ≡ (respond m' c).memory
+      → after ≡ store answer_words now (answer_stride * k) ((respond m' c).answer ∷ []) → AnsweredTo m cs area (k + 1) m'' after
+  answering_more l same ran put =
+      record { ran = one_ran m cs k l same w.ran ran; told = one_answered m cs area k l same w.ran w.told put }
 
   -- all n are
-  pub answering_done : n ≤ k → (m' ≡ run m (take n cs)) × (now ≡ store answer_words area 0 (answers_to m (take n cs)))
+  pub answering_done : {n : ℕ} → k ≡ n → (m' ≡ run m (take n cs)) × (now ≡ store answer_words area 0 (answers_to m (take n cs)))
   unfolding answered
-  answering_done h =
-      let e : k ≡ n = omega (arith, w.within) in (
-        subst (λ (k : ℕ). m' ≡ run m (take k cs)) e w.ran,
-        subst (λ (k : ℕ). now ≡ store answer_words area 0 (answers_to m (take k cs))) e w.told,
-      )
+  answering_done e = (
+    subst (λ (k : ℕ). m' ≡ run m (take k cs)) e w.ran,
+    subst (λ (k : ℕ). now ≡ store answer_words area 0 (answers_to m (take k cs))) e w.told,
+  )
 
 -- the commands of the first n records of a list of bytes
 module _ (bytes : List ℕ) (n : ℕ) where
@@ -147,10 +126,10 @@ module _ (bytes : List ℕ) (n : ℕ) where
   take_first = take_all n (first_commands bytes n) (omega (arith, length_first))
 
   -- all of them
-  pub all_first : {m : Memory} {area : List ℕ} {k : ℕ} {m' : Memory} {now : List ℕ} → AnsweredTo m (first_commands bytes n) area n k m' now → n ≤ k
+  pub all_first : {m : Memory} {area : List ℕ} {k : ℕ} {m' : Memory} {now : List ℕ} → AnsweredTo m (first_commands bytes n) area k m' now → k ≡ n
       → (m' ≡ run m (first_commands bytes n)) × (now ≡ store answer_words area 0 (answers_to m (first_commands bytes n)))
-  all_first {m} {area} {m' = m'} {now = now} w h =
-      let all = answering_done w h in (
+  all_first {m} {area} {m' = m'} {now = now} w e =
+      let all = answering_done w e in (
         subst (λ (l : List Command). m' ≡ run m l) take_first all.0,
         subst (λ (l : List Command). now ≡ store answer_words area 0 (answers_to m l)) take_first all.1,
       )

@@ -3,9 +3,9 @@
 use mathlib.Core.Bool.{Bool, true, false, not, ◌||◌}
 use mathlib.Core.List.{List, [], ◌∷◌}
 use mathlib.Core.Path.{◌≡◌, refl, sym, ap, subst, ◌∙◌}
-use Prim.Native.Nat.{ℕ, ◌*◌, ◌/◌, ◌<◌, ◌≤◌, min}
+use Prim.Native.Nat.{ℕ, ◌*◌, ◌/◌, ◌≤◌, min}
 use native.Mathlib.Omega.{arith}
-use borrow.Author.Tests.{eqb-true, lt-ltb, le-ltb, ltb-false, ne_eqb, not-false}
+use borrow.Author.Tests.{eqb-true, ltb-false, ne_eqb, not-false}
 use lib.Dec.{eqb, ltb}
 use lib.ListN.{length, take, drop, replicate}
 use lib.Seq.{take_at}
@@ -14,7 +14,7 @@ use Rattle.laws.specs.Tabulate.{tabulate, length_tabulate}
 use Rattle.laws.specs.Written.{overwritten}
 use Rattle.areas.specs.Records.{store}
 use Rattle.areas.proofs.Records.{store_nil}
-use Rattle.rules.specs.Answers.{first_of, ◌when◌}
+use Rattle.rules.specs.Answers.{◌when◌}
 use Rattle.rules.specs.Condition3.{MoneyKept, run}
 use Rattle.rules.specs.DayFile.{command_from, command_width}
 use Rattle.rules.specs.Memory.{Declared, Memory, respond, well_formed_memory}
@@ -32,23 +32,6 @@ use Rattle.baskets.specs.declared.list.Ran.{Ran}
 use Rattle.baskets.proofs.Answering.{answer_codec, take_first}
 
 -- ---- a bundle's code
-
-module _ (m : Memory) (count words : ℕ) where
-  pub not_well_formed : well_formed_memory m ≡ false → 21 ≡ bundle_code m count words
-  unfolding bundle_code first_of
-  not_well_formed w = rw w
-
-  pub over_many : well_formed_memory m ≡ true → max_bundle < count → 22 ≡ bundle_code m count words
-  unfolding bundle_code first_of
-  over_many w h = rw (w, lt-ltb max_bundle count h)
-
-  pub too_short : well_formed_memory m ≡ true → count ≤ max_bundle → words < answer_stride * count → 22 ≡ bundle_code m count words
-  unfolding bundle_code first_of
-  too_short w h k = rw (w, le-ltb max_bundle count h, lt-ltb words (answer_stride * count) k)
-
-  pub no_refusal : well_formed_memory m ≡ true → count ≤ max_bundle → answer_stride * count ≤ words → 0 ≡ bundle_code m count words
-  unfolding bundle_code first_of
-  no_refusal w h k = rw (w, le-ltb max_bundle count h, le-ltb words (answer_stride * count) k)
 
 -- what a bundle is that is not refused
 pub record Unrefused (m : Memory) (count words : ℕ) : Type 0 where

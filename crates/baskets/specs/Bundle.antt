@@ -4,7 +4,7 @@ use Rattle.laws.specs.Choice.{pick}
 use Rattle.areas.specs.Records.{store}
 use Rattle.rules.specs.Answers.{first_of, ◌when◌}
 use Rattle.rules.specs.Condition3.{MoneyKept, run}
-use Rattle.rules.specs.Memory.{Memory, respond, well_formed_memory, memory}
+use Rattle.rules.specs.Memory.{Memory, respond, well_formed_memory}
 use Rattle.rules.specs.declared.Answer.{Answer}
 use Rattle.rules.specs.declared.Command.{Command}
 use Rattle.baskets.specs.declared.basket.Receipt.{Receipt}

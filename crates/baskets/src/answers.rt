@@ -12,10 +12,7 @@ pub fn put_answer(area: &mut [u32], k: usize, a: Answer)
     ensures { area.new ≡ store answer_words area.old (answer_stride * k) (a ∷ []) }
 {
     let at = rules::ANSWER_STRIDE * k;
-    area[at] = a.code;
-    area[at + 1] = a.number;
-    area[at + 2] = a.traded;
-    area[at + 3] = a.lots;
+    area[at..at + rules::ANSWER_STRIDE].copy_from_slice(&[a.code, a.number, a.traded, a.lots]);
 }
 
 // One command, its answer at place k. It asks to be told whether the state is well formed.
@@ -34,7 +31,6 @@ pub fn answer_command(
     ensures answers_after { answers.new ≡ store answer_words answers.old (answer_stride * k) ((respond (memory state buys.old sells.old trades.old) command).answer ∷ []) }
 {
     let r = execute::respond(formed, state, buys, sells, trades, command);
-    let answer = r.answer;
-    put_answer(answers, k, answer);
+    put_answer(answers, k, r.answer);
     r.state
 }

@@ -3,6 +3,7 @@
 ghost use Rattle.std.specs.Prelude.{true, ◌≡◌, ◌*◌, ◌/◌, ◌≤◌, length, replicate, take};
 ghost use Rattle.laws.specs.Written.{overwritten};
 ghost use Rattle.areas.specs.Records.{store};
+ghost use Rattle.rules.specs.Codes.{code_in};
 ghost use Rattle.rules.specs.Condition3.{run};
 ghost use Rattle.rules.specs.DayFile.{command_from, command_width};
 ghost use Rattle.rules.specs.Memory.{memory, well_formed_memory};
@@ -11,13 +12,13 @@ ghost use Rattle.exchange.specs.Run.{whole_commands};
 ghost use Rattle.baskets.specs.Bundle.{BundleIs, answer_words, answers_to, bundle_code, max_bundle, answer_stride};
 
 use crate::answers::answer_command;
-use crate::list::fewer;
+use rules::codes::Code;
 use rules::{Command, State};
 
 // "up to 100 commands in one call"
 pub const MAX_BUNDLE: usize = 100;
 
-// 0, or the code that refuses the whole bundle, and the state after it.
+// 0, or the code that refuses the whole bundle, and the state after it. The C interface needs the code's number.
 #[repr(C)]
 #[derive(Clone, Copy)]
 pub struct Receipt {
@@ -25,7 +26,8 @@ pub struct Receipt {
     pub state: State,
 }
 
-// "Refusals, for the whole bundle": 21, then 22; 0 where there is none. The area for answers has `words` words.
+// "Refusals, for the whole bundle": 21, then 22. The area for answers has `words` words.
+#[tactic(auto, unfolding(crate::specs::Bundle::bundle_code, rules::specs::Answers::first_of))]
 fn refusal(
     state: State,
     buys: &[u32],
@@ -33,19 +35,16 @@ fn refusal(
     trades: &[u32],
     count: usize,
     words: usize,
-) -> u32
-    ensures { result ≡ bundle_code (memory state buys.now sells.now trades.now) count words }
+) -> Result<(), Code>
+    ensures { code_in result ≡ bundle_code (memory state buys.now sells.now trades.now) count words }
 {
     if !audit::well_formed(state, buys, sells, trades) {
-        return 21;
+        return Err(Code::StateNotWellFormed);
     }
-    if count > MAX_BUNDLE {
-        return 22;
+    if count > MAX_BUNDLE || words < rules::ANSWER_STRIDE * count {
+        return Err(Code::BundleTooLarge);
     }
-    if words < rules::ANSWER_STRIDE * count {
-        return 22;
-    }
-    0
+    Ok(())
 }
 
 // The first `count` commands in turn, each answered in the area. For this file: it asks for a well-formed state, a count within
@@ -64,11 +63,9 @@ fn answer_all(
     ensures answers_after { answers.new ≡ store answer_words answers.old 0 (answers_to (memory state buys.old sells.old trades.old) (take count commands)) }
 {
     let mut current = state;
-    let mut k: usize = 0;
-    while k < count {
+    for k in 0..count {
         let command = commands[k];
         current = answer_command(true, current, buys, sells, trades, command, answers, k);
-        k += 1;
     }
     current
 }
@@ -85,7 +82,7 @@ pub fn submit(
 ) -> Receipt
     ensures { BundleIs (memory state buys.old sells.old trades.old) commands count answers.old result (memory result.state buys.new sells.new trades.new) answers.new }
 {
-    let code = refusal(
+    let refused = refusal(
         state,
         &buys[..],
         &sells[..],
@@ -93,8 +90,11 @@ pub fn submit(
         count,
         answers.len(),
     );
-    if code != 0 {
-        return Receipt { code, state };
+    if let Err(code) = refused {
+        return Receipt {
+            code: code.number(),
+            state,
+        };
     }
     let next = answer_all(state, buys, sells, trades, commands, count, answers);
     Receipt {
@@ -110,11 +110,9 @@ fn read_commands(bytes: &[u8], count: usize) -> [Command; MAX_BUNDLE]
     ensures { result ≡ overwritten (λ i. command_from bytes.now (command_width * i)) (replicate max_bundle Malformed) count }
 {
     let mut commands = [Command::Malformed; MAX_BUNDLE];
-    let mut k: usize = 0;
-    while k < count {
+    for k in 0..count {
         let record = endian::reading::record_at(bytes, rules::COMMAND_WIDTH * k);
         commands[k] = commands::command_of(record);
-        k += 1;
     }
     commands
 }
@@ -131,6 +129,6 @@ pub fn submit_bytes(
     ensures { BundleIs (memory state buys.old sells.old trades.old) (whole_commands bytes.now) (length bytes.now / command_width) answers.old result (memory result.state buys.new sells.new trades.new) answers.new }
 {
     let count = bytes.len() / rules::COMMAND_WIDTH;
-    let commands = read_commands(bytes, fewer(count, MAX_BUNDLE));
+    let commands = read_commands(bytes, count.min(MAX_BUNDLE));
     submit(state, buys, sells, trades, commands, count, answers)
 }

@@ -1,5 +1,5 @@
 // A list of commands of any length, with an area for their answers. `run` is a call for users: it answers on anything.
-ghost use Rattle.std.specs.Prelude.{◌≡◌, ◌*◌, ◌≤◌, min, length};
+ghost use Rattle.std.specs.Prelude.{◌≡◌, ◌*◌, ◌≤◌, length};
 ghost use Rattle.areas.specs.Records.{store};
 ghost use Rattle.rules.specs.Condition3.{run as rules·run};
 ghost use Rattle.rules.specs.DayFile.{command_width};
@@ -36,20 +36,12 @@ fn answer_records(
     ensures answers_after { answers.new ≡ store answer_words answers.old 0 (answers_to (memory state buys.old sells.old trades.old) (first_commands bytes.now count)) }
 {
     let mut current = state;
-    let mut k: usize = 0;
-    while k < count {
+    for k in 0..count {
         let record = endian::reading::record_at(bytes, rules::COMMAND_WIDTH * k);
         let command = commands::command_of(record);
         current = answer_command(formed, current, buys, sells, trades, command, answers, k);
-        k += 1;
     }
     current
-}
-
-pub fn fewer(a: usize, b: usize) -> usize
-    ensures { result ≡ min a b }
-{
-    if a < b { a } else { b }
 }
 
 // The bytes are whole records of 24; what is left behind the last whole one is no command. As many are played as there are places for
@@ -65,10 +57,8 @@ pub fn run(
     ensures { AnsweredIs (memory state buys.old sells.old trades.old) bytes.now answers.old result (memory result.state buys.new sells.new trades.new) answers.new }
 {
     let formed = audit::well_formed(state, &buys[..], &sells[..], &trades[..]);
-    let count = fewer(
-        bytes.len() / rules::COMMAND_WIDTH,
-        answers.len() / rules::ANSWER_STRIDE,
-    );
+    let whole = bytes.len() / rules::COMMAND_WIDTH;
+    let count = whole.min(answers.len() / rules::ANSWER_STRIDE);
     let next = answer_records(formed, state, buys, sells, trades, bytes, count, answers);
     Ran {
         played: count,

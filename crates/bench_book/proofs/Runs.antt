@@ -59,19 +59,19 @@ module _ (s : Sweeps) {t : Taker} (same : t ≡ taker_of s) (b₀ : Book) (n : �
         ∙ ap (entered s b₀) (sym (add-one n))
 
   -- after the last one
-  pub done : {m : ℕ} → n ≡ m → {p c : ℕ} → p ≡ s.probe → c ≡ s.contract
+  pub done : {m : ℕ} → n ≡ m
       → SweptOf s (entered s b₀ m)
-      (record { own = own; opposite = opposite; made = made; last = last; long = (holding_at accounts p c).long; short = (holding_at accounts p c).short })
+      (record { own = own; opposite = opposite; made = made; last = last; long = (holding_at accounts s.probe s.contract).long; short = (holding_at accounts s.probe s.contract).short })
       owns opposites area
-  done em ep ec =
+  done em =
       let e = now ∙ ap (entered s b₀) em in
       record {
         own = ap (λ (b : Book). b.own) e;
         opposite = ap (λ (b : Book). b.opposite) e;
         made = ap (λ (b : Book). b.made) e;
         last = ap (λ (b : Book). b.last) e;
-        long = rw (ep, ec) (ap (λ (b : Book). (holding_at b.accounts s.probe s.contract).long) e);
-        short = rw (ep, ec) (ap (λ (b : Book). (holding_at b.accounts s.probe s.contract).short) e);
+        long = ap (λ (b : Book). (holding_at b.accounts s.probe s.contract).long) e;
+        short = ap (λ (b : Book). (holding_at b.accounts s.probe s.contract).short) e;
         own_queue_lem = ap (λ (b : Book). b.owns) e;
         opposite_queue_lem = ap (λ (b : Book). b.opposites) e;
         trades = ap (λ (b : Book). b.area) e;

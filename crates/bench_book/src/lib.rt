@@ -10,7 +10,8 @@ ghost use Rattle.rules.specs.Memory.{queue_in, put_queue, order_stride, first_wo
 ghost use Rattle.book.specs.Places.{index_of};
 ghost use Rattle.bench_book.specs.Calls.{order_of, taker_of, accounts_of, SweepsReady, SweptIs};
 
-use book::{queue, removal};
+use book::orders::Queue;
+use book::queue;
 use matching::entry;
 use rules::{Account, Holding, Order, PairingMethod, PriceCondition, Taker};
 
@@ -48,12 +49,11 @@ pub extern "C" fn bench_cancel(area: &mut [u32], c: usize, count: usize, number:
     ensures value { result ≡ length (remove_at (index_of number (queue_in area.old c count)) (queue_in area.old c count)) }
     ensures area_after { area.new ≡ put_queue area.old c count (remove_at (index_of number (queue_in area.old c count)) (queue_in area.old c count)) }
 {
-    let i = removal::find(&area[..], c, count, number);
-    if i < count {
-        queue::remove(area, c, count, i);
-        return count - 1;
-    }
-    count
+    let Some(found) = Queue::new(&area[..], c, count).find(number) else {
+        return count;
+    };
+    queue::remove(area, c, count, found.place);
+    count - 1
 }
 
 // An order, paired by the middle price: `kind` is its price condition (0 limit, 1 market, 2 best), `own`, `opposite` and `made` are the counts before it,
@@ -91,6 +91,8 @@ pub struct Swept {
     pub short: u32,
 }
 
+// By its number: the C interface of `Sweeps`.
+#[tactic(auto, unfolding(rules::specs::Command::price_condition))]
 fn price_condition(value: u8, price: u32) -> PriceCondition
     ensures { result ≡ price_condition value price }
 {
@@ -155,8 +157,7 @@ pub extern "C" fn bench_sweeps(
     let mut opposite_count = s.opposite;
     let mut made = s.made;
     let mut last = s.last;
-    let mut done: usize = 0;
-    while done < times {
+    for _done in 0..times {
         let e = entry::enter(
             own,
             own_count,
@@ -176,12 +177,9 @@ pub extern "C" fn bench_sweeps(
         made = e.made;
         last = e.last;
         accounts = e.accounts;
-        done += 1;
     }
-    let probe = laws::wide(s.probe);
-    let c = laws::wide(s.contract);
-    let account = accounts[probe];
-    let holding = account.holdings[c];
+    let account = accounts[s.probe as usize];
+    let holding = account.holdings[s.contract as usize];
     Swept {
         own: own_count,
         opposite: opposite_count,

@@ -10,7 +10,8 @@ ghost use Rattle.bench_exchange.specs.Probes.{probe_of, ran_of, ProbedIs};
 
 use rules::State;
 
-// What the benchmark asks about a state: an account's balance and holding, what changes of a contract, the counts.
+// What the benchmark asks about a state: an account's balance and holding, what changes of a contract, the counts; numbers, as the
+// benchmark's C call gives them.
 #[repr(C)]
 #[derive(Clone, Copy)]
 pub struct Probe {

@@ -7,3 +7,4 @@ pub mod Recorded
 pub mod Scans
 pub mod Sides
 pub mod Trading
+pub mod ReadOrders

@@ -1,9 +1,8 @@
 -- A pull: a queue walked from front to back, the orders that satisfy a test taken out and the others written closed up. What holds when i
 -- orders are read and `kept` of them are kept, what a turn does to it, and the end. Assumes nothing.
-use Rattle.laws.specs.Choice.{for_either}
 use borrow.Rule.Slice.PartMut.{put_mid}
 use Rattle.laws.specs.Logic.{Bool, true, false, List, [], ◌∷◌, ◌++◌, append-nil, ◌≡◌, refl, sym, ap, ◌∙◌}
-use Rattle.laws.specs.Numbers.{ℕ, ◌+◌, ◌-◌, ◌*◌, ◌<◌, ◌≤◌, add-one, arith, eq-eqb, ne_eqb, eqb, length, get_or, take, drop, replicate, length-append, take_all}
+use Rattle.laws.specs.Numbers.{ℕ, ◌+◌, ◌-◌, ◌*◌, ◌<◌, ◌≤◌, add-one, arith, length, get_or, take, drop, replicate, length-append, take_all}
 use Rattle.laws.specs.Numbers.{take-suc}
 use Rattle.areas.specs.Lists.{over, padded}
 use Rattle.areas.specs.Records.{encode, store}
@@ -16,20 +15,8 @@ use Rattle.rules.specs.Step.{without}
 use Rattle.rules.specs.declared.Order.{Order}
 use Rattle.theory.proofs.Codecs.{order_codec, length_queue, order_at_lem}
 use Rattle.theory.proofs.Queue.{lots_nil, lots_met, lots_unmet, lots_append, without_nil, without_met, without_unmet, without_append}
-use Rattle.book.specs.Removal.{is_pulled, RemovedIs}
+use Rattle.book.specs.Removal.{RemovedIs}
 use Rattle.book.proofs.Queues.{put_over}
-
--- ---- the orders meant
-
-module _ (quote : Bool) (account : ℕ) (o : Order) where
-  pub pulled_another : (o.account ≡ account → ⊥) → false ≡ is_pulled quote account o
-  pulled_another h = for_either (λ q. false ≡ is_pulled q account o) (sym (ne_eqb o.account account h)) (sym (rw (ne_eqb o.account account h))) quote
-
-  pub pulled_quote : o.account ≡ account → quote ≡ true → eqb o.quote 1 ≡ is_pulled quote account o
-  pulled_quote h t = sym (ap (λ (b : Bool). is_pulled b account o) t ∙ rw (eq-eqb o.account account h))
-
-  pub pulled_any : o.account ≡ account → quote ≡ false → true ≡ is_pulled quote account o
-  pulled_any h t = sym (ap (λ (b : Bool). is_pulled b account o) t ∙ eq-eqb o.account account h)
 
 -- ---- the walk
 

@@ -1,9 +1,8 @@
 -- One queue of an area: the orders that code reads there in turn, and what the words that it writes there make of the queue.
 -- `part` is what a lent part of the area came back as. Assumes nothing.
 use borrow.Rule.Slice.PartMut.{put_mid, Post-is}
-use native.Mathlib.Numerals.{one-add}
-use lib.Seq.{sets, sets-eq, drop-set-add, take-set-le}
-use Rattle.laws.specs.Logic.{Bool, true, false, List, [], ◌∷◌, ◌++◌, append-nil, ◌≡◌, refl, sym, ap, ◌∙◌}
+use lib.Seq.{drop-set-add, take-set-le}
+use Rattle.laws.specs.Logic.{Bool, List, [], ◌∷◌, ◌++◌, append-nil, ◌≡◌, refl, sym, ap, ◌∙◌}
 use Rattle.laws.specs.Numbers.{ℕ, ◌+◌, ◌-◌, ◌*◌, ◌<◌, ◌≤◌, add-one, arith, length, get_or, set, take, drop, length-drop, length-set, take-append-drop}
 use Rattle.laws.specs.Numbers.{drop_of_length-le, length-take-le, take_all, take-take, drop_at, drop-cons, drop-drop, drop-length}
 use Rattle.areas.specs.Lists.{over, insert_at, remove_at, padded}
@@ -20,13 +19,9 @@ use Rattle.rules.specs.Memory.{order_words, order_from, queue_in, put_queue, ord
 use Rattle.book.specs.Places.{first_where, place_in}
 use Rattle.rules.specs.declared.Order.{Order}
 use Rattle.theory.proofs.Codecs.{order_codec, length_queue, order_at_lem}
-use Rattle.book.proofs.Places.{first_nil, first_here, first_on, first_within, rest_in_insert_at}
+use Rattle.book.proofs.Places.{first_within, rest_in_insert_at}
 
 -- ---- an order written and moved
-
--- seven stores write an order in front
-pub put_words : (part : List ℕ) (o : Order) → order_stride ≤ length part → sets part 0 (order_words o) ≡ order_words o ++ drop order_stride part
-put_words part o h = sets-eq (order_words o) part 0 h
 
 -- an order is written over the gap in front of what was moved back
 pub shift_in : (part moved : List ℕ) (o : Order) → order_stride ≤ length part → moved ≡ moved_back order_stride part
@@ -50,39 +45,6 @@ module _ (area : List ℕ) (c n i : ℕ) where
 
   pub no_more : n ≤ i → drop i (queue_in area c n) ≡ []
   no_more h = drop_of_length-le (queue_in area c n) {i = i} (rw (length_queue area c n) h)
-
--- ---- a loop that counts over a queue: `done` is counted of the orders before place i, and `f` counts those from there on
-
--- those from there on count nothing
-pub tally_none : (done rest answer : ℕ) → done + rest ≡ answer → rest ≡ 0 → done ≡ answer
-tally_none done rest answer so_far k = omega arith
-
-module _ (f : List Order → ℕ) (area : List ℕ) (c n i done answer : ℕ) (so_far : done + f (drop i (queue_in area c n)) ≡ answer) where
-  pub tally_end : n ≤ i → f [] ≡ 0 → done ≡ answer
-  tally_end h k = tally_none done _ answer so_far (rw (no_more area c n i h) k)
-
-  module _ (o : Order) (h : i < n) (e : o ≡ order_from (drop (first_word c i) area)) where
-    -- neither the order at i nor any behind it counts
-    pub tally_stop : ((os : List Order) → f (o ∷ os) ≡ 0) → done ≡ answer
-    tally_stop k = tally_none done _ answer so_far (rw (next_order area c n i o h e) (k (drop (i + 1) (queue_in area c n))))
-
-    -- the order at i counts a, and g counts those behind it
-    pub tally_on : (g : List Order → ℕ) (a : ℕ) → ((os : List Order) → f (o ∷ os) ≡ a + g os) → done + a + g (drop (i + 1) (queue_in area c n)) ≡ answer
-    tally_on g a k =
-        let turn : f (drop i (queue_in area c n)) ≡ a + g (drop (i + 1) (queue_in area c n)) = rw (next_order area c n i o h e) (k (drop (i + 1) (queue_in area c n))) in
-        omega arith
-
--- a search for the first order that satisfies a test counts those before it
-module _ (test : Order → Bool) (area : List ℕ) (c n i answer : ℕ) (so_far : i + first_where test (drop i (queue_in area c n)) ≡ answer) where
-  module _ (o : Order) (h : i < n) (e : o ≡ order_from (drop (first_word c i) area)) where
-    pub search_on : test o ≡ false → i + 1 + first_where test (drop (i + 1) (queue_in area c n)) ≡ answer
-    search_on t = tally_on (first_where test) area c n i i answer so_far o h e (first_where test) 1 (λ os. first_on test o os t ∙ sym (one-add (first_where test os)))
-
-    pub search_here : test o ≡ true → i ≡ answer
-    search_here t = tally_stop (first_where test) area c n i i answer so_far o h e (λ os. first_here test o os t)
-
-  pub search_end : n ≤ i → i ≡ answer
-  search_end h = tally_end (first_where test) area c n i i answer so_far h (first_nil test)
 
 -- ---- the queue written
 

@@ -1,32 +1,16 @@
--- What one order adds to the numbers that are read of a queue, in the terms of the code that reads it: fillable lots, the number
--- of trades, an account's resting lots. Assumes nothing.
-use Rattle.laws.specs.Logic.{Bool, true, false, not, ◌&&◌, List, [], ◌∷◌, ◌≡◌, sym, ap, ◌∙◌}
-use Rattle.laws.specs.Numbers.{ℕ, ◌+◌, ◌-◌, ◌≤◌, min, arith, eq-eqb, ne_eqb, not-true, not-false, eqb}
-use Rattle.laws.specs.Choice.{pick, true_both, false_both, both_false}
-use Rattle.laws.specs.Sums.{sum_of}
-use Rattle.book.specs.EarlyStop.{fillable_front, count_trades}
-use Rattle.rules.specs.Exchange.{lots_where, resting}
+-- What one order adds to the numbers that are read of a queue, in the terms of the code that reads it: the number of trades, an
+-- account's resting lots. Assumes nothing.
+use Rattle.laws.specs.Logic.{true, ◌&&◌, List, [], ◌∷◌, ◌≡◌, sym, ap, ◌∙◌}
+use Rattle.laws.specs.Numbers.{ℕ, ◌+◌, ◌-◌, min, arith, eq-eqb, ne_eqb, eqb}
+use Rattle.laws.specs.Choice.{true_both, false_both, both_false}
+use Rattle.book.specs.EarlyStop.{count_trades}
+use Rattle.rules.specs.Exchange.{resting}
 use Rattle.rules.specs.Matching.{counterpart}
 use Rattle.rules.specs.declared.{Order.Order, Taker.Taker}
-use Rattle.book.proofs.EarlyStop.{front_met, count_used, count_met}
+use Rattle.book.proofs.EarlyStop.{count_met}
 use Rattle.theory.proofs.Queue.{lots_nil, lots_met, lots_unmet, lots_append}
 
--- ---- a counterpart: fillable lots, and trades
-
--- what a negated test decides of the answer t that its value r stands for
-pub test_failed : (r t : Bool) → r ≡ t → not r ≡ true → t ≡ false
-test_failed r t e h = sym e ∙ not-true r h
-
-pub test_passed : (r t : Bool) → r ≡ t → not r ≡ false → t ≡ true
-test_passed r t e h = sym e ∙ not-false r h
-
--- it adds its lots
-pub fillable_on : (t : Taker) (o : Order) (a : ℕ) → a ≡ o.lots → counterpart t o ≡ true → (os : List Order) → fillable_front t (o ∷ os) ≡ a + fillable_front t os
-fillable_on t o a e met os = front_met t o os met ∙ ap (λ (k : ℕ). k + fillable_front t os) (sym e)
-
--- where no lots are left there is none
-pub trades_used : (t : Taker) (left : ℕ) (os : List Order) → left ≡ 0 → count_trades t left os ≡ 0
-trades_used t left os e = rw e (count_used t os)
+-- ---- a counterpart
 
 -- it adds one trade, of the smaller of the lots left and its own
 pub trades_on : (t : Taker) (left size : ℕ) (o : Order) → (left ≡ 0 → ⊥) → size ≡ min left o.lots → counterpart t o ≡ true → (os : List Order)
@@ -57,15 +41,6 @@ module _ (close account : ℕ) (o : Order) where
       let t : (eqb o.account account && eqb o.close close) ≡ true = true_both (eqb o.account account) (eqb o.close close) (eq-eqb o.account account p) (eq-eqb o.close close q) in
       omega (arith, lots_met (λ p. eqb p.account account && eqb p.close close) o [] t, lots_nil (λ p. eqb p.account account && eqb p.close close))
 
-  module _ (a : ℕ) (e : a ≡ resting close account (o ∷ [])) where
-    pub resting_on : (os : List Order) → resting close account (o ∷ os) ≡ a + resting close account os
-    unfolding resting
-    resting_on os = rw e (lots_append _ (o ∷ []) os)
-
-    pub resting_within : a ≤ o.lots
-    unfolding resting lots_where sum_of
-    resting_within = within (eqb o.account account && eqb o.close close) o.lots a e
-      where
-        within : (t : Bool) (x a : ℕ) → a ≡ pick t x 0 + 0 → a ≤ x
-        within true x a e = omega arith
-        within false x a e = omega arith
+  pub resting_on : (a : ℕ) → a ≡ resting close account (o ∷ []) → (os : List Order) → resting close account (o ∷ os) ≡ a + resting close account os
+  unfolding resting
+  resting_on a e os = rw e (lots_append _ (o ∷ []) os)

@@ -1,9 +1,10 @@
 -- Where in a queue a new order goes, and where an order with a given number stands: what the engine looks for before it moves
 -- orders. The laws are in proofs/Places.antt. Assumes nothing.
-use Rattle.std.specs.Prelude.{Bool, List, [], ◌∷◌, ℕ, suc, eqb}
+use Rattle.std.specs.Prelude.{Bool, List, [], ◌∷◌, ◌≡◌, ℕ, ◌<◌, suc, eqb, length, get_or, Option, Some, None}
 use Rattle.laws.specs.Choice.{pick}
-use Rattle.rules.specs.Exchange.{worse}
+use Rattle.rules.specs.Exchange.{no_order, worse}
 use Rattle.rules.specs.declared.Order.{Order}
+use Rattle.book.specs.declared.orders.Found.{Found}
 
 -- the place of the first order that satisfies a test, or past the last
 unfoldable pub first_where : (Order → Bool) → List Order → ℕ
@@ -17,3 +18,13 @@ place_in sell price queue = first_where (λ o. worse sell o.price price) queue
 -- the place of an order by its number
 abbrev pub index_of : ℕ → List Order → ℕ
 index_of number queue = first_where (λ o. eqb o.number number) queue
+
+-- the order with a number, found at its place, or nowhere
+abbrev pub FoundIs : ℕ → List Order → Option Found → Type 0
+FoundIs number queue None = index_of number queue ≡ length queue
+FoundIs number queue (Some f) = (f.place < length queue) × (f.place ≡ index_of number queue) × (f.order ≡ get_or queue f.place no_order)
+
+-- the best order of a queue
+abbrev pub front : List Order → Option Order
+front [] = None
+front (o ∷ os) = Some o

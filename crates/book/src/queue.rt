@@ -9,6 +9,7 @@ ghost use Rattle.rules.specs.Matching as matching;
 ghost use Rattle.rules.specs.Memory.{queue_in, put_queue, order_from, order_words, order_stride, first_word, word_of};
 ghost use Rattle.book.specs.Places.{place_in};
 
+use crate::orders::Queue;
 use rules::Order;
 use rules::sizes::{LOTS_WORD, QUOTE_WORD};
 
@@ -56,26 +57,7 @@ pub fn put(part: &mut [u32], o: Order)
 pub fn worse(sell: bool, price: u32, other: u32) -> bool
     ensures { result ≡ exchange.worse sell price other }
 {
-    if sell {
-        return other < price;
-    }
-    price < other
-}
-
-// The place behind every order at this price or better.
-pub fn place(area: &[u32], c: usize, count: usize, sell: bool, price: u32) -> usize
-    requires { first_word c count ≤ length area.now }
-    ensures { result ≡ place_in sell price (queue_in area.now c count) }
-{
-    let mut k: usize = 0;
-    while k < count {
-        let o = order_at(area, c, k);
-        if worse(sell, o.price, price) {
-            return k;
-        }
-        k += 1;
-    }
-    k
+    if sell { other < price } else { price < other }
 }
 
 // Moves each order of a part one place back, and writes the new one in front. The last place's words go.
@@ -102,7 +84,7 @@ pub fn insert(area: &mut [u32], c: usize, count: usize, sell: bool, o: Order)
     requires { first_word c count + order_stride ≤ length area.old }
     ensures { area.new ≡ put_queue area.old c count (matching.rest_in sell o (queue_in area.old c count)) }
 {
-    let i = place(&area[..], c, count, sell, o.price);
+    let i = Queue::new(&area[..], c, count).place(sell, o.price);
     insert_at(area, c, count, i, o);
 }
 

@@ -8,22 +8,6 @@ ghost use Rattle.book.specs.Removal.{is_pulled, RemovedIs};
 use crate::queue;
 use rules::Order;
 
-// The place of the order with a number; the count where there is none.
-pub fn find(area: &[u32], c: usize, count: usize, number: u32) -> usize
-    requires { first_word c count ≤ length area.now }
-    ensures { result ≡ index_of number (queue_in area.now c count) }
-{
-    let mut k: usize = 0;
-    while k < count {
-        let o = queue::order_at(area, c, k);
-        if o.number == number {
-            return k;
-        }
-        k += 1;
-    }
-    k
-}
-
 // The orders that stay in a queue, and the lots taken out of it.
 #[derive(Clone, Copy)]
 pub struct Pulled {
@@ -35,13 +19,7 @@ pub struct Pulled {
 fn is_pulled(o: Order, account: u32, quote: bool) -> bool
     ensures { result ≡ is_pulled quote account o }
 {
-    if o.account != account {
-        return false;
-    }
-    if quote {
-        return o.quote == 1;
-    }
-    true
+    o.account == account && (!quote || o.quote == 1)
 }
 
 // Takes out all orders of an account, or those of its quote alone, perhaps none: the others close up, and the freed places are set
@@ -52,12 +30,10 @@ pub fn pull(area: &mut [u32], c: usize, count: usize, account: u32, quote: bool)
 {
     let mut kept: usize = 0;
     let mut lots: u64 = 0;
-    let mut i: usize = 0;
-    while i < count {
+    for i in 0..count {
         let o = queue::order_at(&area[..], c, i);
-        i += 1;
         if is_pulled(o, account, quote) {
-            lots += laws::wide64(o.lots);
+            lots += u64::from(o.lots);
         } else {
             let at = rules::QUEUE_STRIDE * c + rules::ORDER_STRIDE * kept;
             queue::put(&mut area[at..], o);

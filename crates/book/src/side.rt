@@ -16,16 +16,11 @@ pub fn side<'a>(
     ensures { result.now ≡ side_words buys.now sells.now sell contract contracts count }
 {
     let area = if sell { sells } else { buys };
-    if contract == 0 {
-        return &area[..0];
-    }
-    if contract > contracts {
-        return &area[..0];
-    }
-    if contract > rules::MAX_CONTRACTS {
-        return &area[..0];
-    }
-    if count > rules::MAX_RESTING {
+    if contract == 0
+        || contract > contracts
+        || contract > rules::MAX_CONTRACTS
+        || count > rules::MAX_RESTING
+    {
         return &area[..0];
     }
     let a = rules::QUEUE_STRIDE * (contract - 1);

@@ -1,6 +1,6 @@
 -- A change of a resting order: the code's tests are the rules' refusals, and each of the four ways of an accepted one leaves what the
 -- rules say. Assumes nothing.
-use mathlib.Core.Bool.{Bool, true, false, not, true≢false, ◌&&◌}
+use mathlib.Core.Bool.{Bool, true, false, not, ◌&&◌}
 use mathlib.Core.List.{List, [], ◌∷◌, ◌++◌}
 use mathlib.Core.Path.{◌≡◌, refl, sym, ap, subst, subst⁻¹, ◌∙◌}
 use Prim.Native.Nat.{ℕ, ◌+◌, ◌-◌, ◌<◌, ◌≤◌}
@@ -130,7 +130,7 @@ module _ {s : State} {buys sells trades : List ℕ} (w : WellFormedState s buys 
     -- ---- 14, 15, 5 and 7, of the order found
 
     module _ {r : Resting} (rs : RestingIs number bought sold r) where
-      order_is : first_of order_part ≡ first_of (resting_refusals (get_or s.contracts c no_contract) (place_of account) r lots price)
+      order_is : first_of order_part ≡ first_of (resting_refusals (get_or s.contracts c no_contract) (place_of account) r.order lots price)
       unfolding listing_in
       order_is = rw (resting_is, rs.order, listing_is) refl
 
@@ -142,12 +142,18 @@ module _ {s : State} {buys sells trades : List ℕ} (w : WellFormedState s buys 
       pub terms_at : terms_in_range l.terms ≡ true
       terms_at = rw el (terms_ok w account contract (failed stated (omega arith) st) refl)
 
+      pub none_resting : numbered number (queue_in buys l.place l.bought ++ queue_in sells l.place l.sold) ≡ [] → DecisionIs m command (refused_by 14) buys sells trades
+      unfolding first_of no_such_order
+      none_resting e =
+          let none : resting ≡ [] = resting_is ∙ (rw el at e) in
+          refused_for 14 (in_parts ∙ rw (st, order_first, none) refl) (omega arith) refl
+
     module _ {l : Listed} (el : l ≡ listed_in s c) {r : Resting} (rs : RestingIs number (queue_in buys l.place l.bought) (queue_in sells l.place l.sold) r) {owner : ℕ} (mine : owner ≡ place_of account)
-        {code : ℕ} (ec : code ≡ first_of (resting_refusals l.terms owner r lots price)) where
+        {code : ℕ} (ec : code ≡ first_of (resting_refusals l.terms owner r.order lots price)) where
       found_here : RestingIs number bought sold r
       found_here = rw el at rs
 
-      tested_here : code ≡ first_of (resting_refusals (get_or s.contracts c no_contract) (place_of account) r lots price)
+      tested_here : code ≡ first_of (resting_refusals (get_or s.contracts c no_contract) (place_of account) r.order lots price)
       tested_here = rw (el, mine) at ec
 
       pub order_refused : (code ≡ 0 → ⊥) → {d : Decision} → d ≡ refused_by code → DecisionIs m command d buys sells trades
@@ -165,18 +171,11 @@ module _ {s : State} {buys sells trades : List ℕ} (w : WellFormedState s buys 
     named : Failed stated
     named = failed stated (omega arith) st'
 
-    its : Failed (resting_refusals (get_or s.contracts c no_contract) (place_of account) r lots price)
-    its = failed (resting_refusals (get_or s.contracts c no_contract) (place_of account) r lots price) (omega arith) g.order
-
-    found : r.found ≡ true
-    found = by_found r.found its.0
-      where
-        by_found : (b : Bool) → no_such_order (pick b (r.order ∷ []) []) ≡ false → b ≡ true
-        by_found true e = refl
-        by_found false e = absurd (true≢false (unfold no_such_order in e))
+    its : Failed (resting_refusals (get_or s.contracts c no_contract) (place_of account) r.order lots price)
+    its = failed (resting_refusals (get_or s.contracts c no_contract) (place_of account) r.order lots price) (omega arith) g.order
 
     one_found : numbered number (bought ++ sold) ≡ r.order ∷ []
-    one_found = g.resting.order ∙ rw found refl
+    one_found = g.resting.order
 
     few_lots : lots ≤ max_lots
     few_lots = ltb-false _ _ its.1.1.0
@@ -190,7 +189,7 @@ module _ {s : State} {buys sells trades : List ℕ} (w : WellFormedState s buys 
 
     sell_is : is_sell x k ≡ r.sell
     unfolding is_sell listing_in
-    sell_is = rw (listing_is st') (sym (g.resting.sell found))
+    sell_is = rw (listing_is st') (sym g.resting.sell)
 
     arriving_is : arriving x k ≡ day_limit_order account contract r.sell (eqb r.order.close 1) lots price
     unfolding arriving
@@ -232,15 +231,15 @@ module _ {s : State} {buys sells trades : List ℕ} (w : WellFormedState s buys 
 
     mine : (side : Bool) → r.sell ≡ side → (r.place ≡ index_of number (queue side)) × (r.place < count side)
     mine true e =
-        (rw e at (g.resting.place found), omega (arith, length_queue sells c (count true), ap (λ (b : Bool). length (pick b sold bought)) e, g.resting.within found))
+        (rw e at g.resting.place, omega (arith, length_queue sells c (count true), ap (λ (b : Bool). length (pick b sold bought)) e, g.resting.within))
     mine false e =
-        (rw e at (g.resting.place found), omega (arith, length_queue buys c (count false), ap (λ (b : Bool). length (pick b sold bought)) e, g.resting.within found))
+        (rw e at g.resting.place, omega (arith, length_queue buys c (count false), ap (λ (b : Bool). length (pick b sold bought)) e, g.resting.within))
 
     mine_in : (side : Bool) → r.sell ≡ side → index_of number (queue side) < length (queue side)
     mine_in side e = omega (arith, (mine side e).0, (mine side e).1, length_queue (area side) c (count side))
 
     other : (side : Bool) → r.sell ≡ side → index_of number (queue (not side)) ≡ length (queue (not side))
-    other true e = missing_of number bought (sym (g.resting.sell found) ∙ e)
+    other true e = missing_of number bought (sym g.resting.sell ∙ e)
     other false e = apart w account contract false (pulls w account contract named) refl number (mine_in false e)
 
     place_in : r.place < count r.sell
@@ -261,7 +260,7 @@ module _ {s : State} {buys sells trades : List ℕ} (w : WellFormedState s buys 
     -- it is the account's own
     another : not (eqb r.order.account (place_of account)) ≡ false
     unfolding of_another
-    another = rw found at its.1.0
+    another = its.1.0
 
     cancel_code : code_of x (Cancel account contract false number) ≡ 0
     unfolding code_of kind_of cancel_refusals pull_refusals first_of of_another no_such_order

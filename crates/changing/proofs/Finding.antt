@@ -1,97 +1,60 @@
 -- The order with a number in one queue: found there, taken out and put back, and its lots written. Assumes nothing.
-use mathlib.Core.Bool.{Bool, true, false, not, false≢true, ◌&&◌}
+use mathlib.Core.Bool.{true, false, false≢true}
 use mathlib.Core.List.{List, [], ◌∷◌, ◌++◌}
 use mathlib.Core.Path.{◌≡◌, refl, sym, ap, ◌∙◌}
 use Prim.Native.Nat.{ℕ, zero, suc, ◌-◌, ◌<◌, ◌≤◌, max}
 use native.Mathlib.Nat.{eq-or-lt_of_le, le_of_suc-le-suc}
 use mathlib.Core.Logic.{⊎_elim}
 use native.Mathlib.Omega.{arith}
-use lib.Dec.{eqb, ltb}
-use lib.ListN.{length, get_or, set, drop}
-use Rattle.laws.specs.Choice.{pick}
+use lib.ListN.{length, get_or, set}
 use Rattle.areas.specs.Lists.{insert_at, remove_at}
 use Rattle.areas.proofs.Lists.{length_remove_at}
-use Rattle.rules.specs.Answers.{first_of, no_such_order, numbered, of_another, owner_refusals}
-use Rattle.rules.specs.Bounds.{allowed_today, max_lots}
-use Rattle.rules.specs.Change.{lessened, new_fields_refusals, unmarked}
+use Rattle.rules.specs.Answers.{no_such_order, numbered}
+use Rattle.rules.specs.Change.{lessened, unmarked}
 use Rattle.rules.specs.Exchange.{no_order}
 use Rattle.rules.specs.Matching.{with_lots}
-use Rattle.rules.specs.Memory.{first_word, order_from, put_queue, queue_in}
-use Rattle.book.specs.Places.{index_of}
+use Rattle.rules.specs.Memory.{first_word, put_queue, queue_in}
+use Rattle.std.proofs.Common.{None, Some}
+use Rattle.book.specs.Places.{FoundIs, index_of}
+use Rattle.book.specs.declared.orders.Found.{Found}
 use Rattle.rules.specs.Step.{has_number}
 use Rattle.rules.specs.WellFormed.{listed, numbers, used_once}
-use Rattle.rules.specs.declared.Contract.{Contract}
 use Rattle.rules.specs.declared.Order.{Order}
-use Rattle.theory.proofs.Codecs.{length_queue, order_at_lem, put_queue_lem, put_queue_put_queue, queue_put}
+use Rattle.theory.proofs.Codecs.{length_queue, put_queue_lem, put_queue_put_queue, queue_put}
 use Rattle.theory.proofs.Queue.{once_append}
 use Rattle.book.proofs.Places.{first_ind, first_here, first_within, index_apart, index_not_in, numbered_append_found, numbered_append_none, numbered_found, numbered_none}
 use Rattle.changing.specs.Resting.{RestingIs, put_back_in}
 
--- ---- the order found: bid and offer are the places that the two searches gave
+-- ---- the order found, on one side or the other
 
-module _ (number : ℕ) (buys sells : List ℕ) (c buycount sellcount : ℕ) where
-  abbrev bought : List Order
-  bought = queue_in buys c buycount
+module _ (number : ℕ) (bought sold : List Order) where
+  pub among_buys : {f : Found} → FoundIs number bought (Some f) → RestingIs number bought sold (record { order = f.order; place = f.place; sell = false })
+  unfolding no_such_order
+  among_buys {f} is =
+      let l : index_of number bought < length bought = omega (arith, is.0, is.1) in
+      let its : get_or bought (index_of number bought) no_order ≡ f.order = rw (← is.1) (sym is.2) in
+      record {
+        order = numbered_append_found number bought sold l ∙ ap (λ (p : Order). p ∷ []) its;
+        sell = sym (rw (numbered_found number bought l));
+        place = is.1;
+        within = is.0;
+      }
 
-  abbrev sold : List Order
-  sold = queue_in sells c sellcount
-
-  module _ {bid : ℕ} (eb : bid ≡ index_of number bought) where
-    pub among_buys : {o : Order} → bid < buycount → o ≡ order_from (drop (first_word c bid) buys)
-        → RestingIs number bought sold (record { order = o; place = bid; found = true; sell = false })
+  module _ (missing : FoundIs number bought None) where
+    pub among_sells : {f : Found} → FoundIs number sold (Some f) → RestingIs number bought sold (record { order = f.order; place = f.place; sell = true })
     unfolding no_such_order
-    among_buys {o} h eo =
-        let l : index_of number bought < length bought = rw (← eb, length_queue buys c buycount) h in
-        let is : get_or bought (index_of number bought) no_order ≡ o = rw (← eb) (order_at_lem buys c buycount bid h ∙ sym eo) in
+    among_sells {f} is =
+        let l : index_of number sold < length sold = omega (arith, is.0, is.1) in
+        let its : get_or sold (index_of number sold) no_order ≡ f.order = rw (← is.1) (sym is.2) in
         record {
-          order = numbered_append_found number bought sold l ∙ ap (λ (p : Order). p ∷ []) is;
-          sell = λ e. sym (rw (numbered_found number bought l));
-          place = λ e. eb;
-          within = λ e. rw (length_queue buys c buycount) h;
+          order = numbered_append_none number bought sold missing ∙ numbered_found number sold l ∙ ap (λ (p : Order). p ∷ []) its;
+          sell = sym (rw (numbered_none number bought missing));
+          place = is.1;
+          within = is.0;
         }
 
-    missing : buycount ≤ bid → index_of number bought ≡ length bought
-    missing h = omega (arith, eb, length_queue buys c buycount, first_within (has_number number) bought)
-
-    module _ (past : buycount ≤ bid) {offer : ℕ} (es : offer ≡ index_of number sold) where
-      pub among_sells : {o : Order} → offer < sellcount → o ≡ order_from (drop (first_word c offer) sells)
-          → RestingIs number bought sold (record { order = o; place = offer; found = true; sell = true })
-      unfolding no_such_order
-      among_sells {o} h eo =
-          let l : index_of number sold < length sold = rw (← es, length_queue sells c sellcount) h in
-          let is : get_or sold (index_of number sold) no_order ≡ o = rw (← es) (order_at_lem sells c sellcount offer h ∙ sym eo) in
-          let its : numbered number (bought ++ sold) ≡ o ∷ [] =
-          numbered_append_none number bought sold (missing past) ∙ numbered_found number sold l ∙ ap (λ (p : Order). p ∷ []) is in
-          record {
-            order = its;
-            sell = λ e. sym (rw (numbered_none number bought (missing past)));
-            place = λ e. es;
-            within = λ e. rw (length_queue sells c sellcount) h;
-          }
-
-      pub nowhere : sellcount ≤ offer → (o : Order) (place : ℕ) (sell : Bool) → RestingIs number bought sold (record { order = o; place = place; found = false; sell = sell })
-      unfolding no_such_order
-      nowhere h o place sell =
-          let none : numbered number (bought ++ sold) ≡ [] =
-          numbered_append_none number bought sold (missing past)
-          ∙ numbered_none number sold (omega (arith, es, length_queue sells c sellcount, first_within (has_number number) sold)) in
-          record {
-            order = none;
-            sell = λ e. absurd (false≢true e);
-            place = λ e. absurd (false≢true e);
-            within = λ e. absurd (false≢true e);
-          }
-
--- 14, 15, 5 and 7 as the code tries them: `found` and `order` are the order found
-pub resting_tests : (found : Bool) (order : Order) (terms : Contract) (account lots price : ℕ) →
-    first_of (owner_refusals account (pick found (order ∷ []) []) ++ new_fields_refusals terms lots price)
-    ≡ pick (not found) 14
-    (pick (not (eqb order.account account)) 15
-    (pick (ltb max_lots lots) 5
-    (pick (not (eqb lots 0) && not (allowed_today terms price)) 7 0)))
-unfolding first_of no_such_order of_another
-resting_tests true order terms account lots price = refl
-resting_tests false order terms account lots price = refl
+    pub nowhere : FoundIs number sold None → numbered number (bought ++ sold) ≡ []
+    nowhere none = numbered_append_none number bought sold missing ∙ numbered_none number sold none
 
 -- the other way round: where no order has the number, the search ends past the last
 pub missing_of : (number : ℕ) (os : List Order) → no_such_order (numbered number os) ≡ true → index_of number os ≡ length os

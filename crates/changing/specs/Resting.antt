@@ -18,26 +18,22 @@ use Rattle.engine.specs.declared.updates.Listed.{Listed}
 use Rattle.changing.specs.declared.Asked.{Asked}
 use Rattle.changing.specs.declared.Resting.{Resting}
 
--- the order found, as a list of one or none
-abbrev pub found_in : Resting → List Order
-found_in r = pick r.found (r.order ∷ []) []
-
 -- the order with a number among a contract's, its side, and its place there
 pub record RestingIs (number : ℕ) (buys sells : List Order) (r : Resting) : Type 0 where
-  pub order : numbered number (buys ++ sells) ≡ found_in r
-  pub sell : r.found ≡ true → r.sell ≡ no_such_order (numbered number buys)
-  pub place : r.found ≡ true → r.place ≡ index_of number (pick r.sell sells buys)
-  pub within : r.found ≡ true → r.place < length (pick r.sell sells buys)
+  pub order : numbered number (buys ++ sells) ≡ r.order ∷ []
+  pub sell : r.sell ≡ no_such_order (numbered number buys)
+  pub place : r.place ≡ index_of number (pick r.sell sells buys)
+  pub within : r.place < length (pick r.sell sells buys)
 
 -- 14, 15, 5 and 7, of the order found; `account` is the account's place
-abbrev pub resting_refusals : Contract → ℕ → Resting → ℕ → ℕ → List Refusal
-resting_refusals terms account r lots price = owner_refusals account (found_in r) ++ new_fields_refusals terms lots price
+abbrev pub resting_refusals : Contract → ℕ → Order → ℕ → ℕ → List Refusal
+resting_refusals terms account order lots price = owner_refusals account (order ∷ []) ++ new_fields_refusals terms lots price
 
 -- the order found, and a change that is refused neither for its account and contract nor for these
 pub record Changeable (s : State) (buys sells trades : List ℕ) (account contract number lots price : ℕ) (r : Resting) : Type 0 where
   pub state : first_of (named_refusals (exchange_of (memory s buys sells trades)) not_continuous account contract) ≡ 0
   pub resting : RestingIs number (queue_in buys (place_of contract) (get_or s.buycounts (place_of contract) 0)) (queue_in sells (place_of contract) (get_or s.sellcounts (place_of contract) 0)) r
-  pub order : first_of (resting_refusals (get_or s.contracts (place_of contract) no_contract) (place_of account) r lots price) ≡ 0
+  pub order : first_of (resting_refusals (get_or s.contracts (place_of contract) no_contract) (place_of account) r.order lots price) ≡ 0
 
 -- ---- one queue written: other lots and no mark at a place, an order taken out of one, and put back
 

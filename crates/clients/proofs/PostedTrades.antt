@@ -3,7 +3,8 @@ use lib.Seq.{get_or-append_seam}
 use Rattle.laws.specs.Logic.{Bool, true, false, not, ◌&&◌, ◌||◌, List, [], ◌∷◌, ◌++◌, map, append-nil, ◌≡◌, refl, sym, ap, ap₂, ◌∙◌}
 use Rattle.laws.specs.Numbers.{ℕ, ◌+◌, ◌*◌, ◌<◌, ◌≤◌, arith, lt-ltb, eqb, ltb, length, get_or, take, drop, length-append, length-map, take-append-drop}
 use Rattle.laws.specs.Numbers.{List·getD-append}
-use Rattle.laws.specs.Choice.{pick, pick_true, all_of, all_of_append, all_of_stop, both_true}
+use Rattle.std.specs.Prelude.{Some, None}
+use Rattle.laws.specs.Choice.{pick, all_of, all_of_append, all_of_stop, both_true}
 use Rattle.areas.specs.Records.{store}
 use Rattle.areas.proofs.Records.{store_append, store_nil, length_store, take_records}
 use Rattle.rules.specs.Exchange.{no_trade}
@@ -14,7 +15,6 @@ use Rattle.dayprofit.proofs.Trading.{more_trades}
 use Rattle.replaying.proofs.Trades.{next_trade}
 use Rattle.clients.specs.Parts.{before, client_trades, PostingIs}
 use Rattle.clients.specs.Clients.{is_posted, client_place, client_trade, trade_posted, is_client, legs_in, leg_count, total, max_clients, others}
-use Rattle.clients.specs.declared.posting.Posting.{Posting}
 use Rattle.clients.proofs.Posted.{posted_place}
 use Rattle.clients.proofs.Totals.{total_more, total_ext}
 
@@ -98,7 +98,7 @@ module _ (a clients : ℕ) (postings trades : List ℕ) (count : ℕ) (area₀ :
       }
 
   module _ (i legs : ℕ) (area : List ℕ) (l : i < count) (g : Going i legs area) (t : Trade) (e : t ≡ trade_from (drop (trade_stride * i) trades)) where
-    pub not_posted : trade_posted a clients postings t ≡ false → PostingIs a clients postings trades count area₀ (record { all = false; legs = 0 }) area
+    pub not_posted : trade_posted a clients postings t ≡ false → PostingIs a clients postings trades count area₀ None area
     unfolding before
     not_posted f =
         let p : Trade → Bool = trade_posted a clients postings in
@@ -106,10 +106,10 @@ module _ (a clients : ℕ) (postings trades : List ℕ) (count : ℕ) (area₀ :
         let front : before p day ≡ recorded_trades trades i =
         ap (before p) (sym (take-append-drop i day) ∙ ap₂ (λ (xs ys : List Trade). xs ++ ys) (first_trades trades count i l) (next_trade trades count i l e))
         ∙ before_append p (recorded_trades trades i) (t ∷ drop (i + 1) day) g.all ∙ rw f (append-nil (recorded_trades trades i)) in
+        let some : all_of p day ≡ false = all_of_stop p day i no_trade (rw (length_trades trades count) l) (ap p (trade_at_lem trades count i l ∙ sym e) ∙ f) in
         record {
-          all = sym (all_of_stop p day i no_trade (rw (length_trades trades count) l) (ap p (trade_at_lem trades count i l ∙ sym e) ∙ f));
           content = g.content ∙ ap (λ (ts : List Trade). store trade_words area₀ 0 (map (client_trade a clients postings) ts)) (sym front);
-          legs = refl;
+          legs = rw some;
         }
 
     module _ (u : Trade) (w : u ≡ client_trade a clients postings t) where
@@ -140,24 +140,39 @@ module _ (a clients : ℕ) (postings trades : List ℕ) (count : ℕ) (area₀ :
           }
 
   pub all_posted : (i legs : ℕ) (area : List ℕ) → count ≤ i → Going i legs area
-      → PostingIs a clients postings trades count area₀ (record { all = true; legs = legs }) area
+      → PostingIs a clients postings trades count area₀ (Some legs) area
   all_posted i legs area h g =
       let e : i ≡ count = omega (arith, g.within) in
       let p : Trade → Bool = trade_posted a clients postings in
       let every : all_of p (recorded_trades trades count) ≡ true = ap (λ (n : ℕ). all_of p (recorded_trades trades n)) (sym e) ∙ g.all in
       record {
-        all = sym every;
         content = g.content ∙ ap (λ (n : ℕ). store trade_words area₀ 0 (client_trades a clients postings trades n)) e
             ∙ ap (λ (ts : List Trade). store trade_words area₀ 0 (map (client_trade a clients postings) ts)) (sym (before_all p (recorded_trades trades count) every));
-        legs = g.counted ∙ ap (λ (n : ℕ). leg_count (client_trades a clients postings trades n)) e;
+        legs = rw every (ap Some (g.counted ∙ ap (λ (n : ℕ). leg_count (client_trades a clients postings trades n)) e));
       }
 
--- what a call that found all posted leaves
-module _ {a clients : ℕ} {postings trades : List ℕ} {count : ℕ} {area : List ℕ} {r : Posting} {area' : List ℕ} (q : PostingIs a clients postings trades count area r area') (t : r.all ≡ true) where
-  pub posted_content : area' ≡ store trade_words area 0 (client_trades a clients postings trades count)
-  posted_content =
-      q.content ∙ ap (λ (ts : List Trade). store trade_words area 0 (map (client_trade a clients postings) ts))
-      (before_all (trade_posted a clients postings) (recorded_trades trades count) (sym q.all ∙ t))
+-- what a call leaves that found a leg without a client, and one that found none
 
-  pub posted_legs : r.legs ≡ leg_count (client_trades a clients postings trades count)
-  posted_legs = q.legs ∙ pick_true r.all (leg_count (client_trades a clients postings trades count)) 0 t
+none_picked : (b : Bool) (y : ℕ) → None ≡ pick b (Some y) None → b ≡ false
+none_picked true y e = absurd (cc)
+none_picked false y e = refl
+
+some_picked : (b : Bool) (x y : ℕ) → Some x ≡ pick b (Some y) None → (b ≡ true) × (x ≡ y)
+some_picked true x y e = (refl, cc)
+some_picked false x y e = absurd (cc)
+
+module _ {a clients : ℕ} {postings trades : List ℕ} {count : ℕ} {area area' : List ℕ} where
+  pub none_posted : PostingIs a clients postings trades count area None area' → all_of (trade_posted a clients postings) (recorded_trades trades count) ≡ false
+  none_posted q = none_picked _ _ q.legs
+
+  module _ {legs : ℕ} (q : PostingIs a clients postings trades count area (Some legs) area') where
+    pub all_known : all_of (trade_posted a clients postings) (recorded_trades trades count) ≡ true
+    all_known = (some_picked _ _ _ q.legs).0
+
+    pub posted_legs : legs ≡ leg_count (client_trades a clients postings trades count)
+    posted_legs = (some_picked _ _ _ q.legs).1
+
+    pub posted_content : area' ≡ store trade_words area 0 (client_trades a clients postings trades count)
+    posted_content =
+        q.content ∙ ap (λ (ts : List Trade). store trade_words area 0 (map (client_trade a clients postings) ts))
+        (before_all (trade_posted a clients postings) (recorded_trades trades count) all_known)

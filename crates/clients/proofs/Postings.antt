@@ -1,10 +1,10 @@
 -- The postings of an order, as a loop meets them, and the client they give it. Assumes nothing.
-use Rattle.laws.specs.Logic.{Bool, ◌&&◌, List, [], ◌∷◌, ◌++◌, append-nil, ◌≡◌, refl, sym, ap, ◌∙◌}
+use Rattle.laws.specs.Logic.{◌&&◌, List, [], ◌∷◌, ◌++◌, append-nil, ◌≡◌, refl, sym, ap, ◌∙◌}
 use Rattle.laws.specs.Numbers.{ℕ, ◌+◌, ◌-◌, ◌*◌, ◌/◌, ◌<◌, ◌≤◌, arith, eq-eqb, ne_eqb, le-leb, lt-leb, eqb, leb, length, get_or, length-append}
 use Rattle.laws.specs.Choice.{pick}
 use Rattle.rules.specs.declared.Trade.{Trade}
 use Rattle.sections.specs.Sections.{in_row}
-use Rattle.clients.specs.Clients.{posted_to, posted, is_posted, client_place, client_trade, is_client, legs_in, others}
+use Rattle.clients.specs.Clients.{posted_to, posted, is_posted, client_place, client_trade, others}
 use Rattle.sections.proofs.Rows.{row_more}
 
 module _ (postings : List ℕ) (number : ℕ) where
@@ -73,10 +73,6 @@ module _ (postings : List ℕ) (number : ℕ) where
         place_known z = sym (place_single h ∙ rw (le-leb 1 client some, le-leb client clients z))
 
 -- ---- a trade's clients
-
-pub legs_counted : (t : Trade) (buys sells : Bool) → is_client t.buyer ≡ buys → is_client t.seller ≡ sells → pick buys 1 0 + pick sells 1 0 ≡ legs_in t
-unfolding legs_in
-legs_counted t buys sells e f = rw (e, f)
 
 pub as_clients : (t : Trade) (a clients : ℕ) (postings : List ℕ) (buyer seller buyclose sellclose : ℕ)
     → buyer ≡ pick (eqb t.buyer a) (client_place clients postings t.buyorder) others

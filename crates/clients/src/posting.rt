@@ -14,80 +14,56 @@ use rules::Trade;
 // The place behind the clients' stands for every other account.
 const OTHERS: u32 = MAX_CLIENTS;
 
-// Whether the account's legs all have clients, and how many legs there are.
-#[derive(Clone, Copy)]
-pub struct Posting {
-    pub all: bool,
-    pub legs: usize,
-}
-
 // The place of the client to whom an order is posted; the others' where it is unposted, posted twice or posted to an unknown client.
 fn client_place(postings: &[u32], number: u32, clients: u32) -> u32
     ensures { result ≡ client_place clients postings.now number }
 {
-    let n = postings.len() / 2;
     let mut times: usize = 0;
     let mut client: u32 = 0;
-    let mut i: usize = 0;
-    while i < n {
-        let at = 2 * i;
-        if postings[at] != number {
-            i += 1;
-            continue;
+    for i in 0..postings.len() / 2 {
+        if postings[2 * i] == number {
+            client = postings[2 * i + 1];
+            times += 1;
         }
-        client = postings[at + 1];
-        times += 1;
-        i += 1;
     }
     if times != 1 {
         return OTHERS;
     }
-    if client < 1 {
-        return OTHERS;
-    }
-    if clients < client {
+    if client < 1 || clients < client {
         return OTHERS;
     }
     laws::place_word(client)
 }
 
-// The place of a leg: its client's, or the others'.
-fn leg_place(account: u32, a: u32, number: u32, postings: &[u32], clients: u32) -> u32
-    ensures { result ≡ pick (eqb account a) (client_place clients postings.now number) others }
+// The place and the mark of a leg: its client's where it is the account's; every other leg is the others', and counts as an open.
+fn client_leg(
+    account: u32,
+    a: u32,
+    order: u32,
+    close: u32,
+    postings: &[u32],
+    clients: u32,
+) -> (u32, u32)
+    ensures place { result.0 ≡ pick (eqb account a) (client_place clients postings.now order) others }
+    ensures mark { result.1 ≡ pick (eqb account a) close 0 }
 {
     if account != a {
-        return OTHERS;
+        return (OTHERS, 0);
     }
-    client_place(postings, number, clients)
-}
-
-// A leg's mark: the others' legs count as opens.
-fn leg_mark(account: u32, a: u32, mark: u32) -> u32
-    ensures { result ≡ pick (eqb account a) mark 0 }
-{
-    if account != a {
-        return 0;
-    }
-    mark
+    (client_place(postings, order, clients), close)
 }
 
 fn client_trade(t: Trade, a: u32, postings: &[u32], clients: u32) -> Trade
     ensures { result ≡ client_trade a clients postings.now t }
 {
-    let buyer = leg_place(t.buyer, a, t.buyorder, postings, clients);
-    let seller = leg_place(t.seller, a, t.sellorder, postings, clients);
-    let buyclose = leg_mark(t.buyer, a, t.buyclose);
-    let sellclose = leg_mark(t.seller, a, t.sellclose);
+    let (buyer, buyclose) = client_leg(t.buyer, a, t.buyorder, t.buyclose, postings, clients);
+    let (seller, sellclose) = client_leg(t.seller, a, t.sellorder, t.sellclose, postings, clients);
     Trade {
-        contract: t.contract,
-        price: t.price,
-        lots: t.lots,
-        buyorder: t.buyorder,
-        sellorder: t.sellorder,
         buyer,
         seller,
         buyclose,
         sellclose,
+        ..t
     }
 }
 
@@ -95,39 +71,18 @@ fn client_trade(t: Trade, a: u32, postings: &[u32], clients: u32) -> Trade
 fn legs_in(t: Trade) -> usize
     ensures { (result ≡ legs_in t) × (result ≤ 2) }
 {
-    if t.buyer < MAX_CLIENTS {
-        if t.seller < MAX_CLIENTS {
-            return 2;
-        }
-        return 1;
-    }
-    if t.seller < MAX_CLIENTS {
-        return 1;
-    }
-    0
-}
-
-// Whether a leg has a client, where it is the account's.
-fn has_client(account: u32, a: u32, place: u32) -> bool
-    ensures { result ≡ (not (eqb account a) || is_client place) }
-{
-    if account != a {
-        return true;
-    }
-    place < MAX_CLIENTS
+    usize::from(t.buyer < MAX_CLIENTS) + usize::from(t.seller < MAX_CLIENTS)
 }
 
 // Whether the account's legs in a trade have clients; u is the trade with clients in the account's place.
 fn is_posted(t: Trade, u: Trade, a: u32) -> bool
     ensures { result ≡ ((not (eqb t.buyer a) || is_client u.buyer) && (not (eqb t.seller a) || is_client u.seller)) }
 {
-    if !has_client(t.buyer, a, u.buyer) {
-        return false;
-    }
-    has_client(t.seller, a, u.seller)
+    (t.buyer != a || u.buyer < MAX_CLIENTS) && (t.seller != a || u.seller < MAX_CLIENTS)
 }
 
-// The first `count` trades with clients in the account's place, written into `area`.
+// The first `count` trades with clients in the account's place, written into `area`, up to the first that has a leg of the account's
+// without a client. It gives the number of clients' legs, and none where there is such a trade.
 pub fn post_trades(
     trades: &[u32],
     count: usize,
@@ -135,24 +90,19 @@ pub fn post_trades(
     postings: &[u32],
     clients: u32,
     area: &mut [u32],
-) -> Posting
+) -> Option<usize>
     requires { (clients ≤ max_clients) × (count ≤ max_trades) × (trade_stride * count ≤ length trades.now) × (trade_stride * count ≤ length area.old) }
     ensures { PostingIs a clients postings.now trades.now count area.old result area.new }
 {
     let mut legs: usize = 0;
-    let mut i: usize = 0;
-    while i < count {
+    for i in 0..count {
         let t = trades::trade_at(trades, i);
         let u = client_trade(t, a, postings, clients);
         if !is_posted(t, u, a) {
-            return Posting {
-                all: false,
-                legs: 0,
-            };
+            return None;
         }
         trades::put_trade(area, i, u);
         legs += legs_in(u);
-        i += 1;
     }
-    Posting { all: true, legs }
+    Some(legs)
 }

@@ -8,6 +8,7 @@ ghost use Rattle.clients.specs.Parts.{clients_with};
 ghost use Rattle.clients.specs.Clients.{client_account, client_holding, start_long, start_short, total, max_clients, starts_stride};
 
 use rules::{Account, Holding};
+use std::array;
 
 // Two words for each contract of a client: long and short lots.
 const STARTS_STRIDE: usize = 2 * rules::MAX_CONTRACTS;
@@ -16,7 +17,7 @@ const STARTS_STRIDE: usize = 2 * rules::MAX_CONTRACTS;
 fn word_at(starts: &[u32], at: usize) -> u32
     ensures { result ≡ get_or starts.now at 0 }
 {
-    if at < starts.len() { starts[at] } else { 0 }
+    starts.get(at).copied().unwrap_or(0)
 }
 
 // What stands `first` words behind each client's first word, added up.
@@ -25,13 +26,19 @@ fn sum(starts: &[u32], first: usize, clients: usize) -> u64
     ensures { result ≡ total clients (λ k. get_or starts.now (starts_stride * k + first) 0) }
 {
     let mut lots: u64 = 0;
-    let mut k: usize = 0;
-    while k < clients {
-        let word = word_at(starts, STARTS_STRIDE * k + first);
-        lots += laws::wide64(word);
-        k += 1;
+    for k in 0..clients {
+        lots += u64::from(word_at(starts, STARTS_STRIDE * k + first));
     }
     lots
+}
+
+// Whether the clients' long and short lots in contract c add up to a holding's.
+fn adds_up(starts: &[u32], clients: usize, h: Holding, c: usize) -> bool
+    requires { (clients ≤ max_clients) × (c < max_contracts) }
+    ensures { result ≡ (eqb (total clients (λ k. start_long starts.now k c)) h.startlong && eqb (total clients (λ k. start_short starts.now k c)) h.startshort) }
+{
+    sum(starts, 2 * c, clients) == u64::from(h.startlong)
+        && sum(starts, 2 * c + 1, clients) == u64::from(h.startshort)
 }
 
 // "The clients' start-of-day holdings must add up to the account's."
@@ -44,18 +51,10 @@ pub fn add_up(
     requires { (clients ≤ max_clients) × (contracts ≤ max_contracts) }
     ensures { result ≡ all (λ c. eqb (total clients (λ k. start_long starts.now k c)) (get_or holdings c no_holding).startlong && eqb (total clients (λ k. start_short starts.now k c)) (get_or holdings c no_holding).startshort) contracts }
 {
-    let mut c: usize = 0;
-    while c < contracts {
-        let h = holdings[c];
-        let long = laws::wide64(h.startlong);
-        let short = laws::wide64(h.startshort);
-        if sum(starts, 2 * c, clients) != long {
+    for c in 0..contracts {
+        if !adds_up(starts, clients, holdings[c], c) {
             return false;
         }
-        if sum(starts, 2 * c + 1, clients) != short {
-            return false;
-        }
-        c += 1;
     }
     true
 }
@@ -66,12 +65,7 @@ fn start_holding(starts: &[u32], clients: usize, k: usize, c: usize) -> Holding
     ensures { result ≡ client_holding (pick (ltb k clients) starts.now []) k c }
 {
     if clients <= k {
-        return Holding {
-            long: 0,
-            short: 0,
-            startlong: 0,
-            startshort: 0,
-        };
+        return Holding::default();
     }
     let long = word_at(starts, STARTS_STRIDE * k + 2 * c);
     let short = word_at(starts, STARTS_STRIDE * k + 2 * c + 1);
@@ -87,14 +81,10 @@ fn client_account(starts: &[u32], clients: usize, k: usize) -> Account
     requires { k < max_accounts }
     ensures { result ≡ client_account (clients_with clients starts.now) k }
 {
-    let first = start_holding(starts, clients, k, 0);
-    let second = start_holding(starts, clients, k, 1);
-    let third = start_holding(starts, clients, k, 2);
-    let fourth = start_holding(starts, clients, k, 3);
+    let holdings = array::from_fn(|c| start_holding(starts, clients, k, c));
     Account {
-        balance: 0,
-        maker: 0,
-        holdings: [first, second, third, fourth],
+        holdings,
+        ..Account::default()
     }
 }
 
@@ -102,12 +92,5 @@ fn client_account(starts: &[u32], clients: usize, k: usize) -> Account
 pub fn client_accounts(starts: &[u32], clients: usize) -> [Account; rules::MAX_ACCOUNTS]
     ensures { result ≡ tabulate max_accounts (client_account (clients_with clients starts.now)) }
 {
-    let none = client_account(starts, 0, 0);
-    let mut accounts: [Account; rules::MAX_ACCOUNTS] = [none; rules::MAX_ACCOUNTS];
-    let mut k: usize = 0;
-    while k < rules::MAX_ACCOUNTS {
-        accounts[k] = client_account(starts, clients, k);
-        k += 1;
-    }
-    accounts
+    array::from_fn(|k| client_account(starts, clients, k))
 }

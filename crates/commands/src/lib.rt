@@ -9,6 +9,7 @@ ghost use Rattle.commands.specs.Accounts.{account_number, place_among};
 use rules::{Command, NewOrder, PriceCondition, Record, TimeCondition};
 
 // "Fields not used are zero": each kind hands over its unused fields, and 0 for the others.
+#[tactic(auto, unfolding(laws::specs::Choice::all_of, rules::specs::Command::zeros))]
 fn all_zero(
     account: u8,
     contract: u8,
@@ -20,27 +21,16 @@ fn all_zero(
 ) -> bool
     ensures { result ≡ zeros (account ∷ contract ∷ flags ∷ lots ∷ price ∷ number ∷ amount ∷ []) }
 {
-    if account != 0 {
-        return false;
-    }
-    if contract != 0 {
-        return false;
-    }
-    if flags != 0 {
-        return false;
-    }
-    if lots != 0 {
-        return false;
-    }
-    if price != 0 {
-        return false;
-    }
-    if number != 0 {
-        return false;
-    }
-    amount == 0
+    account == 0
+        && contract == 0
+        && flags == 0
+        && lots == 0
+        && price == 0
+        && number == 0
+        && amount == 0
 }
 
+#[tactic(auto, unfolding(rules::specs::Command::price_condition))]
 fn price_condition(value: u8, price: u32) -> PriceCondition
     ensures { result ≡ price_condition value price }
 {
@@ -51,6 +41,7 @@ fn price_condition(value: u8, price: u32) -> PriceCondition
     }
 }
 
+#[tactic(auto, unfolding(rules::specs::Command::time_condition))]
 fn time_condition(value: u8) -> TimeCondition
     ensures { result ≡ time_condition value }
 {
@@ -92,6 +83,7 @@ fn new_order(r: Record) -> NewOrder
     }
 }
 
+#[tactic(auto, unfolding(laws::specs::Choice::all_of, rules::specs::Command::zeros, rules::specs::Command::deposit_of))]
 fn deposit_of(r: Record) -> Command
     ensures { result ≡ deposit_of r }
 {
@@ -105,6 +97,7 @@ fn deposit_of(r: Record) -> Command
     }
 }
 
+#[tactic(auto, unfolding(laws::specs::Choice::all_of, rules::specs::Command::zeros, rules::specs::Command::withdraw_of))]
 fn withdraw_of(r: Record) -> Command
     ensures { result ≡ withdraw_of r }
 {
@@ -118,6 +111,7 @@ fn withdraw_of(r: Record) -> Command
     }
 }
 
+#[tactic(auto, unfolding(laws::specs::Choice::all_of, rules::specs::Command::zeros, rules::specs::Command::insert_of))]
 fn insert_of(r: Record) -> Command
     ensures { result ≡ insert_of r }
 {
@@ -132,6 +126,7 @@ fn insert_of(r: Record) -> Command
 }
 
 // "Cancel and pull flags: bit 0 operator, the rest zero."
+#[tactic(auto, unfolding(laws::specs::Choice::all_of, rules::specs::Command::zeros, rules::specs::Command::cancel_of))]
 fn cancel_of(r: Record) -> Command
     ensures { result ≡ cancel_of r }
 {
@@ -150,6 +145,7 @@ fn cancel_of(r: Record) -> Command
     }
 }
 
+#[tactic(auto, unfolding(laws::specs::Choice::all_of, rules::specs::Command::zeros, rules::specs::Command::pull_of))]
 fn pull_of(r: Record) -> Command
     ensures { result ≡ pull_of r }
 {
@@ -168,6 +164,7 @@ fn pull_of(r: Record) -> Command
 }
 
 // "State flags: 0 pre-open, 1 continuous, 2 no trading, 3 closed", and 4, auction: above it they are unknown.
+#[tactic(auto, unfolding(laws::specs::Choice::all_of, rules::specs::Command::zeros, rules::specs::Command::phase_of))]
 fn phase_of(r: Record) -> Command
     ensures { result ≡ phase_of r }
 {
@@ -184,6 +181,7 @@ fn phase_of(r: Record) -> Command
     }
 }
 
+#[tactic(auto, unfolding(laws::specs::Choice::all_of, rules::specs::Command::zeros, rules::specs::Command::settle_of))]
 fn settle_of(r: Record) -> Command
     ensures { result ≡ settle_of r }
 {
@@ -197,6 +195,7 @@ fn settle_of(r: Record) -> Command
 }
 
 // "the price field holds the buy price, the order number field the sell price".
+#[tactic(auto, unfolding(laws::specs::Choice::all_of, rules::specs::Command::zeros, rules::specs::Command::quote_of))]
 fn quote_of(r: Record) -> Command
     ensures { result ≡ quote_of r }
 {
@@ -214,6 +213,7 @@ fn quote_of(r: Record) -> Command
 }
 
 // "Kind 9 .. gives account, contract, order number, the new remaining lots and the price."
+#[tactic(auto, unfolding(laws::specs::Choice::all_of, rules::specs::Command::zeros, rules::specs::Command::change_of))]
 fn change_of(r: Record) -> Command
     ensures { result ≡ change_of r }
 {
@@ -231,6 +231,7 @@ fn change_of(r: Record) -> Command
 }
 
 // The command that a record is, or `Malformed`: "kind, flag value or unused field is wrong".
+#[tactic(auto, unfolding(rules::specs::Command::command_of))]
 pub fn command_of(r: Record) -> Command
     ensures { result ≡ command_of r }
 {
@@ -255,64 +256,28 @@ pub fn kind_of(command: Command) -> u32
 {
     match command {
         Command::Malformed => 0,
-        Command::Deposit {
-            account: _,
-            amount: _,
-        } => 1,
-        Command::Withdraw {
-            account: _,
-            amount: _,
-        } => 2,
+        Command::Deposit { .. } => 1,
+        Command::Withdraw { .. } => 2,
         Command::Insert(_) => 3,
-        Command::Cancel {
-            account: _,
-            contract: _,
-            operator: _,
-            number: _,
-        } => 4,
-        Command::Pull {
-            account: _,
-            contract: _,
-            operator: _,
-        } => 5,
-        Command::Phase {
-            contract: _,
-            phase: _,
-        } => 6,
+        Command::Cancel { .. } => 4,
+        Command::Pull { .. } => 5,
+        Command::Phase { .. } => 6,
         Command::Settle => 7,
-        Command::Quote {
-            account: _,
-            contract: _,
-            lots: _,
-            buy: _,
-            sell: _,
-        } => 8,
-        Command::Change {
-            account: _,
-            contract: _,
-            number: _,
-            lots: _,
-            price: _,
-        } => 9,
+        Command::Quote { .. } => 8,
+        Command::Change { .. } => 9,
     }
 }
 
 pub fn is_malformed(command: Command) -> bool
     ensures { result ≡ is_malformed command }
 {
-    match command {
-        Command::Malformed => true,
-        _ => false,
-    }
+    matches!(command, Command::Malformed)
 }
 
 pub fn is_settle(command: Command) -> bool
     ensures { result ≡ is_settle command }
 {
-    match command {
-        Command::Settle => true,
-        _ => false,
-    }
+    matches!(command, Command::Settle)
 }
 
 // The number of the account that a command names, 0 where its kind names none.
@@ -320,40 +285,14 @@ fn account_number(command: Command) -> u32
     ensures { result ≡ account_number command }
 {
     match command {
-        Command::Malformed => 0,
-        Command::Deposit { account, amount: _ } => account,
-        Command::Withdraw { account, amount: _ } => account,
         Command::Insert(o) => o.account,
-        Command::Cancel {
-            account,
-            contract: _,
-            operator: _,
-            number: _,
-        } => account,
-        Command::Pull {
-            account,
-            contract: _,
-            operator: _,
-        } => account,
-        Command::Phase {
-            contract: _,
-            phase: _,
-        } => 0,
-        Command::Settle => 0,
-        Command::Quote {
-            account,
-            contract: _,
-            lots: _,
-            buy: _,
-            sell: _,
-        } => account,
-        Command::Change {
-            account,
-            contract: _,
-            number: _,
-            lots: _,
-            price: _,
-        } => account,
+        Command::Deposit { account, .. }
+        | Command::Withdraw { account, .. }
+        | Command::Cancel { account, .. }
+        | Command::Pull { account, .. }
+        | Command::Quote { account, .. }
+        | Command::Change { account, .. } => account,
+        Command::Malformed | Command::Phase { .. } | Command::Settle => 0,
     }
 }
 
@@ -363,10 +302,7 @@ pub fn account_place(command: Command, accounts: usize) -> usize
     ensures { result ≡ place_among (account_number command) accounts }
 {
     let number = account_number(command);
-    if number == 0 {
-        return 0;
-    }
-    if accounts < laws::wide(number) {
+    if number == 0 || accounts < number as usize {
         return 0;
     }
     laws::place_of(number)

@@ -67,9 +67,6 @@ module _ (file : List ℕ) where
 
 -- ---- what a head says
 
-some_of : {n : ℕ} → (n ≡ 0 → ⊥) → 1 ≤ n
-some_of {n} h = omega (arith, h)
-
 pub record Head (file : List ℕ) : Type 0 where
   pub some_contract : 1 ≤ contracts_in file
   pub contracts : contracts_in file ≤ max_contracts
@@ -113,30 +110,29 @@ module _ (file : List ℕ) where
       )
 
   -- the same by the counts as the code reads them
-  module _ {c : ℕ} (ec : c ≡ count_before file 4 4) where
-    pub no_contracts_lem : c ≡ 0 → false ≡ head_whole file
-    no_contracts_lem z = sym (refused (λ l. uncounted file 4 4 ec z (omega (arith, l.long)) (omega (arith, l.some_contract, contracts_read file)) (omega (arith, l.contracts, contracts_read file))))
+  pub no_contracts_lem : count_before file 4 4 ≡ 0 → false ≡ head_whole file
+  no_contracts_lem z = sym (refused (λ l. uncounted file 4 4 z (omega (arith, l.long)) (omega (arith, l.some_contract, contracts_read file)) (omega (arith, l.contracts, contracts_read file))))
 
-    module _ (some : c ≡ 0 → ⊥) where
-      pub contracts_are : c ≡ contracts_in file
-      contracts_are = (counted file 4 4 ec some).is ∙ sym (contracts_read file)
+  module _ {c : ℕ} (ec : c ≡ count_before file 4 4) (some : 1 ≤ c) where
+    pub contracts_are : c ≡ contracts_in file
+    contracts_are = (counted file 4 4 ec some).is ∙ sym (contracts_read file)
 
-      module _ {end a : ℕ} (is : end ≡ 8 + 20 * c) (ea : a ≡ count_before file end 32) where
-        read_there : u32_at file (end - 4) ≡ accounts_in file
-        read_there = ap (u32_at file) (omega (arith, contracts_are)) ∙ sym (accounts_read file)
+    module _ {end : ℕ} (is : end ≡ 8 + 20 * c) where
+      read_there : u32_at file (end - 4) ≡ accounts_in file
+      read_there = ap (u32_at file) (omega (arith, contracts_are)) ∙ sym (accounts_read file)
 
-        pub no_accounts_lem : a ≡ 0 → false ≡ head_whole file
-        no_accounts_lem z =
-            sym (refused (λ l. uncounted file end 32 ea z (omega (arith, l.long, contracts_are)) (omega (arith, l.some_account, read_there)) (omega (arith, l.accounts, read_there))))
+      pub no_accounts_lem : count_before file end 32 ≡ 0 → false ≡ head_whole file
+      no_accounts_lem z =
+          sym (refused (λ l. uncounted file end 32 z (omega (arith, l.long, contracts_are)) (omega (arith, l.some_account, read_there)) (omega (arith, l.accounts, read_there))))
 
-        module _ (more : a ≡ 0 → ⊥) where
-          pub accounts_are : a ≡ accounts_in file
-          accounts_are = (counted file end 32 ea more).is ∙ read_there
+      module _ {a : ℕ} (ea : a ≡ count_before file end 32) (more : 1 ≤ a) where
+        pub accounts_are : a ≡ accounts_in file
+        accounts_are = (counted file end 32 ea more).is ∙ read_there
 
-          pub reach_decides : c ≤ 4 → a ≤ 32 → leb (12 + 20 * c + 8 * a) (length file) ≡ head_whole file
-          reach_decides h k =
-              ap₂ (λ (m n : ℕ). leb (12 + 20 * m + 8 * n) (length file)) contracts_are accounts_are
-              ∙ sym (length_decides (omega (arith, contracts_are, some_of some)) (omega (arith, contracts_are)) (omega (arith, accounts_are, some_of more)) (omega (arith, accounts_are)))
+        pub reach_decides : c ≤ 4 → a ≤ 32 → leb (12 + 20 * c + 8 * a) (length file) ≡ head_whole file
+        reach_decides h k =
+            ap₂ (λ (m n : ℕ). leb (12 + 20 * m + 8 * n) (length file)) contracts_are accounts_are
+            ∙ sym (length_decides (omega (arith, contracts_are)) (omega (arith, contracts_are)) (omega (arith, accounts_are)) (omega (arith, accounts_are)))
 
   abbrev contracts_sound : Bool
   contracts_sound = all (contract_sound file) (contracts_in file)

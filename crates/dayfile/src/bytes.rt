@@ -23,32 +23,24 @@ pub fn maker_at(file: &[u8], at: usize) -> u64
     requires { at + account_width ≤ length file.now }
     ensures { result ≡ pick (leb maker_bit (u64_at file.now at)) 1 0 }
 {
-    if MAKER_BIT <= u64_at(file, at) {
-        return 1;
-    }
-    0
+    u64::from(MAKER_BIT <= u64_at(file, at))
 }
 
 // "A contract is 20 bytes", the last two of them its pairing method
+#[tactic(auto, unfolding(rules::specs::DayFile::contract_from))]
 pub fn contract_at(file: &[u8], at: usize) -> Contract
     requires { at + contract_width ≤ length file.now }
     ensures { result ≡ contract_from file.now at }
 {
-    let multiplier = u16_at(file, at) as u32;
-    let tick = u16_at(file, at + 2) as u32;
     let reference = u32_at(file, at + 4);
-    let band = u32_at(file, at + 8);
-    let limit = u32_at(file, at + 12);
-    let rate = u16_at(file, at + 16);
-    let method = u16_at(file, at + 18);
     Contract {
-        multiplier: multiplier,
-        tick: tick,
-        reference: reference,
-        band: band,
-        limit: limit,
-        rate: rate,
-        method: method,
+        multiplier: u32::from(u16_at(file, at)),
+        tick: u32::from(u16_at(file, at + 2)),
+        reference,
+        band: u32_at(file, at + 8),
+        limit: u32_at(file, at + 12),
+        rate: u16_at(file, at + 16),
+        method: u16_at(file, at + 18),
         phase: rules::PRE_OPEN,
         last: reference,
     }

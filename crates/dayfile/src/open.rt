@@ -8,36 +8,19 @@ ghost use Rattle.dayfile.specs.Opened.{no_state, opened_from};
 ghost use Rattle.dayfile.specs.Opening.{account_with, opening_contracts, opening_accounts, opening_state};
 
 use super::bytes::{balance_at, contract_at, maker_at};
-use super::file;
+use super::file::{self, SoundFile};
 use super::head::{TWO_COUNTS, account_count, contract_count};
+use rules::codes::Code;
 use rules::{Account, Contract, Holding, State};
 
-fn no_contract() -> Contract
-    ensures { result ≡ no_contract }
+#[tactic(auto, using(crate::proofs::Places::sound_layout))]
+fn opening_contracts(file: &SoundFile<'_>, contracts: usize) -> [Contract; rules::MAX_CONTRACTS]
+    requires { contracts ≡ contracts_in file.now.bytes.now }
+    ensures { result ≡ opening_contracts file.now.bytes.now }
 {
-    Contract {
-        multiplier: 0,
-        tick: 0,
-        reference: 0,
-        band: 0,
-        limit: 0,
-        rate: 0,
-        method: 0,
-        phase: 0,
-        last: 0,
-    }
-}
-
-fn opening_contracts(file: &[u8], contracts: usize) -> [Contract; rules::MAX_CONTRACTS]
-    requires { (sound file.now ≡ true) × (contracts ≡ contracts_in file.now) }
-    ensures { result ≡ opening_contracts file.now }
-{
-    let none = no_contract();
-    let mut places = [none; rules::MAX_CONTRACTS];
-    let mut c = 0;
-    while c < contracts {
-        places[c] = contract_at(file, rules::COUNT_WIDTH + rules::CONTRACT_WIDTH * c);
-        c += 1;
+    let mut places = [Contract::default(); rules::MAX_CONTRACTS];
+    for c in 0..contracts {
+        places[c] = contract_at(file.bytes, rules::COUNT_WIDTH + rules::CONTRACT_WIDTH * c);
     }
     places
 }
@@ -56,37 +39,41 @@ fn account_with(balance: u64, maker: u64) -> Account
     Account {
         balance: balance as i64,
         maker,
-        holdings: holdings,
+        holdings,
     }
 }
 
 // The accounts begin at `start`.
-fn opening_accounts(file: &[u8], start: usize, accounts: usize) -> [Account; rules::MAX_ACCOUNTS]
-    requires { (sound file.now ≡ true) × (start ≡ account_place file.now 0) × (accounts ≡ accounts_in file.now) }
-    ensures { result ≡ opening_accounts file.now }
+#[tactic(auto, using(crate::proofs::Places::sound_layout, crate::proofs::Places::account_place_lem))]
+fn opening_accounts(
+    file: &SoundFile<'_>,
+    start: usize,
+    accounts: usize,
+) -> [Account; rules::MAX_ACCOUNTS]
+    requires { (start ≡ account_place file.now.bytes.now 0) × (accounts ≡ accounts_in file.now.bytes.now) }
+    ensures { result ≡ opening_accounts file.now.bytes.now }
 {
     let none = account_with(0, 0);
     let mut places = [none; rules::MAX_ACCOUNTS];
-    let mut a = 0;
-    while a < accounts {
-        let balance = balance_at(file, start + rules::ACCOUNT_WIDTH * a);
-        let maker = maker_at(file, start + rules::ACCOUNT_WIDTH * a);
-        places[a] = account_with(balance, maker);
-        a += 1;
+    for a in 0..accounts {
+        let at = start + rules::ACCOUNT_WIDTH * a;
+        places[a] = account_with(balance_at(file.bytes, at), maker_at(file.bytes, at));
     }
     places
 }
 
-// For the crates of this repository: requires a sound file.
+// For the crates of this repository: requires a sound file. It takes bytes, since docs/RULES.md names it.
+#[tactic(auto, using(crate::proofs::Places::sound_layout, crate::proofs::Places::account_place_lem), unfolding(crate::specs::Opening::opening_state))]
 pub fn opening_state(file: &[u8]) -> State
     requires { sound file.now ≡ true }
     ensures { result ≡ opening_state file.now }
 {
     let contractcount = contract_count(file);
     let accountcount = account_count(file, contractcount);
-    let contracts = opening_contracts(file, contractcount);
+    let sound = SoundFile { bytes: file };
+    let contracts = opening_contracts(&sound, contractcount);
     let accounts = opening_accounts(
-        file,
+        &sound,
         TWO_COUNTS + rules::CONTRACT_WIDTH * contractcount,
         accountcount,
     );
@@ -119,7 +106,7 @@ pub struct Opened {
 fn no_state() -> State
     ensures { result ≡ no_state }
 {
-    let contract = no_contract();
+    let contract = Contract::default();
     let account = account_with(0, 0);
     State {
         contracts: [contract; rules::MAX_CONTRACTS],
@@ -136,19 +123,20 @@ fn no_state() -> State
 }
 
 // A call for users: it answers on any bytes.
+#[tactic(auto, using(crate::proofs::Opened::opened_broken, crate::proofs::Opened::opened_sound))]
 pub fn open_day(file: &[u8]) -> Opened
     ensures { result ≡ opened_from file.now }
 {
-    if !file::sound(file) {
+    let Some(sound) = SoundFile::of(file) else {
         return Opened {
-            code: 20,
+            code: Code::FileBroken.number(),
             first: 0,
             commands: 0,
             state: no_state(),
         };
-    }
-    let first = file::first_command(file);
-    let commands = file::commands_in(file);
+    };
+    let first = file::first_command(&sound);
+    let commands = file::commands_in(&sound);
     let state = opening_state(file);
     Opened {
         code: 0,

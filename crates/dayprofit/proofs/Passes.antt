@@ -12,7 +12,7 @@ use Rattle.rules.specs.declared.Trade.{Trade}
 use Rattle.theory.proofs.Codecs.{length_trades, trade_at_lem}
 use Rattle.dayprofit.specs.Day.{Sized, SizedTrades}
 use Rattle.dayprofit.specs.Sides.{same, lots_if, value_if, batch_if, batches_of, opened_today, cost, day_lots_most, day_value_most}
-use Rattle.dayprofit.specs.Slots.{slot_of, party_of, close_of, leg_slot, changed, Placed, PlacedTrades, Addable, SumsAre, UsedAre, LeftAre, slots, slot_lots_most, slot_value_most}
+use Rattle.dayprofit.specs.Slots.{slot_of, party_of, close_of, leg_slot, changed, Placed, PlacedTrades, Addable, slots, slot_lots_most, slot_value_most}
 use Rattle.dayprofit.proofs.FirstIn.{lots_append, cost_append, first_append, first_other}
 use Rattle.dayprofit.proofs.Legs.{is_kind, kind_itself, only_one, leg_lots, leg_value_lem, value_small, legs_lots, legs_value_lem, batches_append, batches_cost}
 use Rattle.dayprofit.proofs.Slots.{Pass, Kept, leg_of, legs_to, slot_small, leg_addable, leg_more, trade_more, no_legs}
@@ -170,7 +170,7 @@ module _ {area : List ℕ} {count i : ℕ} {t : Trade} (r : TradeRead area count
     sell_lots b =
         omega (arith, (b.tells t.seller t.contract true its_places.seller its_places.contract).0, lots_reach_leg area count r.placed.trades i w.within t.seller t.contract true close false t its_size)
 
--- before the first trade and after the last
+-- before the first trade
 
 no_sum : (a c : ℕ) (s : Bool) → a < max_accounts → c < max_contracts → get_or {A = ℕ} (replicate slots 0) (slot_of a c s) 0 ≡ 0
 no_sum a c s la lc = get_or-replicate {A = ℕ} slots (slot_of a c s) 0 0 (slot_small a c s la lc)
@@ -188,11 +188,6 @@ adding_none close area count us vs e f =
       };
     })
 
-pub adding_done : (close : Bool) (area : List ℕ) (count : ℕ) (us vs : List ℕ) (i : ℕ) → count ≤ i → Passing (Added close) area count us vs i → SumsAre close (recorded_trades area count) us vs
-adding_done close area count us vs i h w =
-    let e : i ≡ count = omega (arith, w.within) in
-    record { lots_are = λ a c s la lc. rw (← e) (w.kept.tells a c s la lc).0; value_is = λ a c s la lc. rw (← e) (w.kept.tells a c s la lc).1 }
-
 pub taking_none : (area : List ℕ) (count : ℕ) (left vs : List ℕ) → length left ≡ slots → vs ≡ replicate slots 0 → Passing (Taken left) area count left vs 0
 unfolding batches_of first_lots cost sum_of
 taking_none area count left vs h f =
@@ -205,11 +200,3 @@ taking_none area count left vs h f =
         tells = λ a c s la lc. rw (no_legs area a c) (omega arith, no_sum a c s la lc);
       };
     })
-
-pub taking_done : (area : List ℕ) (count : ℕ) (left us vs : List ℕ) (i : ℕ) → count ≤ i → Passing (Taken left) area count us vs i
-    → UsedAre (recorded_trades area count) left vs × LeftAre (recorded_trades area count) left us
-taking_done area count left us vs i h w =
-    let e : i ≡ count = omega (arith, w.within) in (
-      record { each = λ a c short la lc. rw (← e) (w.kept.tells a c short la lc).1 },
-      record { each = λ a c short la lc. rw (← e) (w.kept.tells a c short la lc).0 },
-    )

@@ -1,53 +1,40 @@
 -- The price from quotes, and the whole settlement price, by the tests of the code. Assumes nothing.
-use mir.Facts.{Fits-below}
-use mir.Syntax.{w32, w64}
-use mir.Val.{Fits}
+use Rattle.std.specs.Prelude.{None, Some}
 use Rattle.laws.specs.Logic.{List, [], ◌∷◌, ◌≡◌, refl, sym, ap₂, ◌∙◌}
-use Rattle.laws.specs.Numbers.{ℕ, zero, suc, ◌+◌, ◌*◌, ◌/◌, ◌≤◌, add-zero, div-mul-le_self, div-le_of_le-mul, arith, drop}
-use Rattle.areas.specs.Records.{records, decode}
+use Rattle.laws.specs.Numbers.{ℕ, ◌*◌, ◌/◌, ◌≤◌, arith}
 use Rattle.laws.specs.Sums.{sum_of}
 use Rattle.rules.specs.Exchange.{Listing}
 use Rattle.rules.specs.Matching.{middle, traded_lots}
-use Rattle.rules.specs.Memory.{queue_in, recorded_trades, order_from, queue_stride}
+use Rattle.rules.specs.Memory.{queue_in, recorded_trades}
 use Rattle.rules.specs.Settlement.{weighted_price, quoted_price, price_from, trades_in, settlement_price}
 use Rattle.rules.specs.declared.{Contract.Contract, Order.Order, Trade.Trade}
+use Rattle.book.specs.Places.{front}
 use Rattle.dayprofit.specs.Day.{AllSized, TurnoverIs, PriceIs}
 use Rattle.dayprofit.specs.declared.price.Turnover.{Turnover}
 use Rattle.dayprofit.proofs.Trading.{some_lots, value_small}
 
--- ---- quotes, by the counts of the two queues
+-- ---- quotes, by the best orders of the two queues
 
-module _ (reference : ℕ) (buys sells : List ℕ) (c : ℕ) where
-  abbrev pub Quoted : ℕ → ℕ → ℕ → Type 0
-  Quoted buycount sellcount r = r ≡ quoted_price reference (queue_in buys c buycount) (queue_in sells c sellcount)
+module _ (reference : ℕ) where
+  pub no_bid : (buys sells : List Order) → front buys ≡ None → reference ≡ quoted_price reference buys sells
+  unfolding quoted_price
+  no_bid [] sells e = refl
+  no_bid (b ∷ bs) sells e = cc
 
-  pub no_bid : (buycount sellcount : ℕ) → buycount ≡ 0 → Quoted buycount sellcount reference
-  unfolding quoted_price queue_in records decode
-  no_bid buycount sellcount e = rw e
+  pub no_offer : (buys sells : List Order) → front sells ≡ None → reference ≡ quoted_price reference buys sells
+  unfolding quoted_price
+  no_offer [] sells e = refl
+  no_offer (b ∷ bs) [] e = refl
+  no_offer (b ∷ bs) (s ∷ ss) e = cc
 
-  pub no_offer : (buycount sellcount : ℕ) → sellcount ≡ 0 → Quoted buycount sellcount reference
-  unfolding quoted_price queue_in records decode
-  no_offer zero sellcount e = refl
-  no_offer (suc n) sellcount e = rw e
-
-  pub both_quoted : (buycount sellcount : ℕ) (b s : Order) (r : ℕ) → (buycount ≡ 0 → ⊥) → (sellcount ≡ 0 → ⊥)
-      → b ≡ order_from (drop (queue_stride * c + 0) buys) → s ≡ order_from (drop (queue_stride * c + 0) sells) → r ≡ middle b.price s.price reference → Quoted buycount sellcount r
-  unfolding quoted_price queue_in records decode
-  both_quoted zero k b s r bids offers e f g = absurd (bids refl)
-  both_quoted (suc n) zero b s r bids offers e f g = absurd (offers refl)
-  both_quoted (suc n) (suc k) b s r bids offers e f g = g ∙ rw (e, f, add-zero)
-
--- ---- the weighted price
-
-module _ (value lots tick : ℕ) (low : value ≤ 1_000_000 * lots) where
-  weighted_small : value / lots / tick * tick ≤ 1_000_000
-  weighted_small = omega (arith, div-mul-le_self (value / lots) tick, div-le_of_le-mul lots {m = value} {n = 1_000_000} (omega arith))
-
-  pub weighted_fits : Fits w64 (value / lots / tick * tick)
-  weighted_fits = Fits-below {n = 1_000_000} tt weighted_small
-
-  pub weighted_narrow : Fits w32 (value / lots / tick * tick)
-  weighted_narrow = Fits-below {n = 1_000_000} tt weighted_small
+  pub both_quoted : (buys sells : List Order) {b s : Order} {r : ℕ} → front buys ≡ Some b → front sells ≡ Some s → r ≡ middle b.price s.price reference → r ≡ quoted_price reference buys sells
+  unfolding quoted_price
+  both_quoted [] sells e f g = cc
+  both_quoted (c ∷ bs) [] e f g = cc
+  both_quoted (c ∷ bs) (d ∷ ss) {b} {s} e f g =
+      let p : c ≡ b = cc in
+      let q : d ≡ s = cc in
+      g ∙ rw (p, q)
 
 -- ---- the settlement price, by the lots traded
 

@@ -4,7 +4,7 @@ use mir.Facts.{Fits-below}
 use mir.Syntax.{w64}
 use mir.Val.{Fits}
 use Rattle.laws.specs.Logic.{Bool, true, false, List, [], ◌∷◌, ◌++◌, ◌≡◌, refl, sym, ap, ◌∙◌}
-use Rattle.laws.specs.Numbers.{ℕ, suc, ◌+◌, ◌-◌, ◌*◌, ◌<◌, ◌≤◌, le_trans, mul-le-mul_left, mul-le-mul_right, arith, eq-eqb, ne_eqb, eqb, length, drop}
+use Rattle.laws.specs.Numbers.{ℕ, suc, ◌+◌, ◌-◌, ◌*◌, ◌<◌, ◌≤◌, mul-le-mul_right, arith, eq-eqb, ne_eqb, eqb, length, drop}
 use Rattle.laws.specs.Choice.{pick}
 use Rattle.laws.specs.Sums.{sum_of, sum_of_append}
 use Rattle.areas.specs.Records.{records, decode}
@@ -104,9 +104,6 @@ module _ (c : ℕ) (t : Trade) where
   unfolding trades_in traded_value traded_lots sum_of
   part_all here = record { value = rw (eq-eqb t.contract c here) (omega arith); lots = rw (eq-eqb t.contract c here) (omega arith) }
 
-  pub part_fits : Sized t → Fits w64 (t.price * t.lots)
-  part_fits s = Fits-below {n = 1_000_000_000} tt (le_trans (mul-le-mul_right t.lots s.price) (mul-le-mul_left 1_000_000 s.lots))
-
 -- ---- the loop over the day's trades: value and lots of the first i, as far as they are the contract's
 
 pub record Trading (area : List ℕ) (count c v l i : ℕ) : Type 0 where
@@ -142,12 +139,6 @@ module _ (area : List ℕ) (count c : ℕ) (s : SizedTrades area count) where
 
     pub lots_fits : Fits w64 (lots + p.lots)
     lots_fits = Fits-below {n = 1_024_000} tt (turnover_small _ _ _ (trading_more value lots i t p h w e q)).1
-
-  pub trading_done : (value lots i : ℕ) → count ≤ i → Trading area count c value lots i
-      → TurnoverIs (trades_in c (recorded_trades area count)) (record { value = value; lots = lots })
-  trading_done value lots i h w =
-      let e : i ≡ count = omega (arith, w.within) in
-      record { value = rw (← e) w.value; lots = rw (← e) w.lots }
 
   pub contract_sized : AllSized (trades_in c (recorded_trades area count))
   contract_sized = trades_in_sized c (recorded_trades area count) s.sized

@@ -29,7 +29,7 @@ pub record TurnoverIs (ts : List Trade) (r : Turnover) : Type 0 where
   pub value : r.value ≡ traded_value ts
   pub lots : r.lots ≡ traded_lots ts
 
--- room for the first order of each queue that has one
+-- room for the orders of both queues
 pub record Quotes (buys : List ℕ) (buycount : ℕ) (sells : List ℕ) (sellcount c : ℕ) : Type 0 where
   pub buyroom : first_word c buycount ≤ length buys
   pub sellroom : first_word c sellcount ≤ length sells

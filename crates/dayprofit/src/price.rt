@@ -2,11 +2,12 @@
 // room of what it reads and for trades and terms in the ranges of a well-formed state.
 ghost use Rattle.std.specs.Prelude.{◌≡◌, [], ◌∷◌, ◌*◌, ◌/◌, ◌<◌, ◌≤◌};
 ghost use Rattle.rules.specs.Bounds.{max_price};
-ghost use Rattle.rules.specs.Memory.{queue_in, recorded_trades};
+ghost use Rattle.rules.specs.Memory.{recorded_trades};
 ghost use Rattle.rules.specs.Settlement.{quoted_price, trades_in};
-ghost use Rattle.dayprofit.specs.Day.{Sized, SizedTrades, TurnoverIs, Quotes, Priceable, PriceIs};
+ghost use Rattle.dayprofit.specs.Day.{Sized, SizedTrades, TurnoverIs, Priceable, PriceIs};
 
-use book::{queue, trades};
+use book::orders::Queue;
+use book::trades;
 use rules::{Contract, Trade};
 
 // What trades of a contract came to, price x lots, and their lots.
@@ -24,10 +25,9 @@ fn part(t: Trade, contract: u32) -> Turnover
     if t.contract != contract {
         return Turnover { value: 0, lots: 0 };
     }
-    let price = t.price as u64;
-    let lots = t.lots as u64;
+    let lots = u64::from(t.lots);
     Turnover {
-        value: price * lots,
+        value: u64::from(t.price) * lots,
         lots,
     }
 }
@@ -38,13 +38,10 @@ fn traded(area: &[u32], count: usize, contract: u32) -> Turnover
 {
     let mut value: u64 = 0;
     let mut lots: u64 = 0;
-    let mut i: usize = 0;
-    while i < count {
-        let t = trades::trade_at(area, i);
-        let p = part(t, contract);
+    for i in 0..count {
+        let p = part(trades::trade_at(area, i), contract);
         value += p.value;
         lots += p.lots;
-        i += 1;
     }
     Turnover { value, lots }
 }
@@ -55,30 +52,20 @@ fn weighted(value: u64, lots: u64, tick: u32) -> u32
     ensures { result ≡ value / lots / tick * tick }
 {
     let average = value / lots;
-    let step = tick as u64;
+    let step = u64::from(tick);
     (average / step * step) as u32
 }
 
 // "with both sides quoted, the middle of best buy, best sell and reference; otherwise the reference"
-fn quoted<'a>(
-    reference: u32,
-    buys: &'a [u32],
-    buycount: usize,
-    sells: &'a [u32],
-    sellcount: usize,
-    c: usize,
-) -> u32
-    requires { Quotes buys.now buycount sells.now sellcount c }
-    ensures { result ≡ quoted_price reference (queue_in buys.now c buycount) (queue_in sells.now c sellcount) }
+fn quoted(reference: u32, buys: &Queue<'_>, sells: &Queue<'_>) -> u32
+    ensures { result ≡ quoted_price reference buys.now sells.now }
 {
-    if buycount == 0 {
+    let Some(bid) = buys.best() else {
         return reference;
-    }
-    if sellcount == 0 {
+    };
+    let Some(offer) = sells.best() else {
         return reference;
-    }
-    let bid = queue::order_at(buys, c, 0);
-    let offer = queue::order_at(sells, c, 0);
+    };
     prices::middle(bid.price, offer.price, reference)
 }
 
@@ -97,10 +84,10 @@ pub fn settlement_price<'a>(
     ensures { PriceIs contract buys.now buycount sells.now sellcount area.now count c result }
 {
     let day = traded(area, count, c as u32);
-    let value = day.value;
-    let lots = day.lots;
-    if lots == 0 {
-        return quoted(contract.reference, buys, buycount, sells, sellcount, c);
+    if day.lots == 0 {
+        let bids = Queue::new(buys, c, buycount);
+        let offers = Queue::new(sells, c, sellcount);
+        return quoted(contract.reference, &bids, &offers);
     }
-    weighted(value, lots, contract.tick)
+    weighted(day.value, day.lots, contract.tick)
 }

@@ -1,7 +1,7 @@
 // Profit by Article 32 of document 002, of one account in one contract, before the multiplier: from what its legs came to. Closes take
 // start-of-day lots first, then today's in trade order. For our own crates: each function asks for sums in the reach of a well-formed
 // state's trades.
-ghost use Rattle.std.specs.Prelude.{true, false, ◌≡◌, ◌<◌, ◌≤◌, pos, ◌-ℤ◌};
+ghost use Rattle.std.specs.Prelude.{◌≡◌, ◌<◌, ◌≤◌, pos, ◌-ℤ◌};
 ghost use Rattle.rules.specs.Bounds.{max_contracts, max_accounts, max_price};
 ghost use Rattle.dayprofit.specs.Slots.{Rooms, sums_at, DaySmall, DayFrom};
 ghost use Rattle.dayprofit.specs.Sides.{SumsSmall, side_from, SideSmall, ProfitFrom, profit_most};
@@ -65,16 +65,14 @@ fn side_of(s: Sums, reference: u32, start: u32) -> Side
     requires { SumsSmall reference start s }
     ensures { result ≡ side_from reference start s }
 {
-    let price = reference as u64;
-    let closed = s.closed;
-    let used = s.used;
-    let first = laws::smaller(closed, start);
-    let cost = price * first as u64 + used;
+    let price = u64::from(reference);
+    let first = s.closed.min(start);
+    let cost = price * u64::from(first) + s.used;
     Side {
         closes: s.closes,
         closed: cost,
-        lots: start + s.opened - closed,
-        opened: price * start as u64 + s.opens - cost,
+        lots: start + s.opened - s.closed,
+        opened: price * u64::from(start) + s.opens - cost,
     }
 }
 
@@ -92,9 +90,9 @@ fn profit_of(long: Side, short: Side, price: u32) -> Profit
     requires { SideSmall long × SideSmall short × (price ≤ max_price) }
     ensures { ProfitFrom long short price result }
 {
-    let mark = price as u64;
-    let longvalue = mark * long.lots as u64;
-    let shortvalue = mark * short.lots as u64;
+    let mark = u64::from(price);
+    let longvalue = mark * u64::from(long.lots);
+    let shortvalue = mark * u64::from(short.lots);
     Profit {
         closing: difference(long.closes + short.closed, long.closed + short.closes),
         holding: difference(longvalue + short.opened, long.opened + shortvalue),
@@ -102,6 +100,7 @@ fn profit_of(long: Side, short: Side, price: u32) -> Profit
 }
 
 // The account's profit in the contract, from the sums in its slots.
+// The sums come in five arrays, and not in one of records: the contract names them one by one.
 pub fn profit_at<'a>(
     closed: &'a [u32],
     closes: &'a [u64],

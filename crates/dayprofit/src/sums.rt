@@ -2,8 +2,7 @@
 // close, and of those that open, then what the closed ones of today's lots were opened for. A sum stands in the slot of its account,
 // contract and side. For our own crates: each function asks for the room of the trades and for values in the ranges of a well-formed
 // state.
-ghost use Rattle.std.specs.Prelude.{true, false, not, ◌≡◌, ◌+◌, ◌-◌, ◌*◌, ◌<◌, ◌≤◌, min, length, get_or, set, replicate};
-ghost use Rattle.laws.specs.Choice.{pick};
+ghost use Rattle.std.specs.Prelude.{false, not, ◌≡◌, ◌+◌, ◌-◌, ◌*◌, ◌<◌, ◌≤◌, min, length, get_or, set, replicate};
 ghost use Rattle.rules.specs.Bounds.{max_contracts, max_accounts};
 ghost use Rattle.rules.specs.Memory.{recorded_trades};
 ghost use Rattle.dayprofit.specs.Sides.{same};
@@ -17,40 +16,20 @@ const ACCOUNT_SLOTS: usize = 2 * rules::MAX_CONTRACTS;
 
 pub const SLOTS: usize = ACCOUNT_SLOTS * rules::MAX_ACCOUNTS;
 
-fn side(sell: bool) -> usize
-    ensures { (result ≡ pick sell 1 0) × (result < 2) }
-{
-    if sell { 1 } else { 0 }
-}
-
 // Where an account's buys or sells in a contract are added up.
 pub fn slot(a: usize, c: usize, sell: bool) -> usize
     requires { (a < max_accounts) × (c < max_contracts) }
     ensures { (result ≡ slot_of a c sell) × (result < slots) }
 {
-    ACCOUNT_SLOTS * a + 2 * c + side(sell)
+    ACCOUNT_SLOTS * a + 2 * c + usize::from(sell)
 }
 
-// The account of a trade's buy or sell leg.
-fn party(t: Trade, sell: bool) -> u32
-    ensures { result ≡ pick sell t.seller t.buyer }
-{
-    if sell { t.seller } else { t.buyer }
-}
-
-// That leg's mark: 0 for an open.
-fn mark(t: Trade, sell: bool) -> u32
-    ensures { result ≡ pick sell t.sellclose t.buyclose }
-{
-    if sell { t.sellclose } else { t.buyclose }
-}
-
-// Whether that leg closes, or opens, as asked.
+// Whether a trade's buy or sell leg closes, or opens, as asked.
 fn is_kind(t: Trade, sell: bool, close: bool) -> bool
     ensures { result ≡ same close (close_of sell t) }
 {
-    let mark = mark(t, sell);
-    if close { mark != 0 } else { mark == 0 }
+    let mark = if sell { t.sellclose } else { t.buyclose };
+    close == (mark != 0)
 }
 
 // Where that leg is added up.
@@ -58,9 +37,8 @@ fn leg_slot(t: Trade, sell: bool) -> usize
     requires { Placed t }
     ensures { (result ≡ leg_slot sell t) × (result < slots) }
 {
-    let a = laws::wide(party(t, sell));
-    let c = laws::wide(t.contract);
-    slot(a, c, sell)
+    let account = if sell { t.seller } else { t.buyer };
+    slot(account as usize, t.contract as usize, sell)
 }
 
 fn add_leg(lots: &mut [u32], value: &mut [u64], t: Trade, sell: bool, close: bool)
@@ -71,10 +49,8 @@ fn add_leg(lots: &mut [u32], value: &mut [u64], t: Trade, sell: bool, close: boo
         return;
     }
     let at = leg_slot(t, sell);
-    let size = t.lots;
-    let price = t.price as u64;
-    lots[at] = lots[at] + size;
-    value[at] = value[at] + price * size as u64;
+    lots[at] += t.lots;
+    value[at] += u64::from(t.price) * u64::from(t.lots);
 }
 
 // The lots and the value of the legs that close, or that open.
@@ -82,12 +58,10 @@ pub fn add_up(area: &[u32], count: usize, close: bool, lots: &mut [u32], value: 
     requires { PlacedTrades area.now count × (lots.old ≡ replicate slots 0) × (value.old ≡ replicate slots 0) }
     ensures { SumsAre close (recorded_trades area.now count) lots.new value.new }
 {
-    let mut i: usize = 0;
-    while i < count {
+    for i in 0..count {
         let t = trades::trade_at(area, i);
         add_leg(lots, value, t, false, close);
         add_leg(lots, value, t, true, close);
-        i += 1;
     }
 }
 
@@ -96,10 +70,8 @@ pub fn put_due(closed: &[u32], left: &mut [u32], a: usize, c: usize, short: bool
     requires { (a < max_accounts) × (c < max_contracts) × (length closed.now ≡ slots) × (length left.old ≡ slots) }
     ensures { left.new ≡ set left.old (slot_of a c short) (get_or closed.now (slot_of a c (not short)) 0 - start) }
 {
-    let closes = slot(a, c, !short);
-    let opens = slot(a, c, short);
-    let lots = closed[closes];
-    left[opens] = lots - laws::smaller(lots, start);
+    let lots = closed[slot(a, c, !short)];
+    left[slot(a, c, short)] = lots.saturating_sub(start);
 }
 
 // Of the lots still to be taken on its side, an opening leg gives as many as it has.
@@ -111,11 +83,9 @@ fn take_leg(left: &mut [u32], used: &mut [u64], t: Trade, sell: bool)
         return;
     }
     let at = leg_slot(t, sell);
-    let due = left[at];
-    let taken = laws::smaller(due, t.lots);
-    let price = t.price as u64;
-    left[at] = due - taken;
-    used[at] = used[at] + price * taken as u64;
+    let taken = left[at].min(t.lots);
+    left[at] -= taken;
+    used[at] += u64::from(t.price) * u64::from(taken);
 }
 
 // "today's in trade order": what the first lots opened on each side were opened for, as many as `left` says.
@@ -123,11 +93,9 @@ pub fn take_first(area: &[u32], count: usize, left: &mut [u32], used: &mut [u64]
     requires { PlacedTrades area.now count × (length left.old ≡ slots) × (used.old ≡ replicate slots 0) }
     ensures { UsedAre (recorded_trades area.now count) left.old used.new × LeftAre (recorded_trades area.now count) left.old left.new }
 {
-    let mut i: usize = 0;
-    while i < count {
+    for i in 0..count {
         let t = trades::trade_at(area, i);
         take_leg(left, used, t, false);
         take_leg(left, used, t, true);
-        i += 1;
     }
 }

@@ -12,7 +12,5 @@ fn main() {
     let mut file = runner::reading::room();
     let read = io::read_full(STDIN_FILENO, &mut file);
     let note = writer::print_file(STDOUT_FILENO, &file[..read]);
-    let bytes = note.bytes;
-    let length = note.length;
-    io::write_all(STDERR_FILENO, &bytes[..length]);
+    io::write_all(STDERR_FILENO, note.as_bytes());
 }

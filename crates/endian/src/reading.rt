@@ -4,16 +4,9 @@ ghost use Rattle.std.specs.Prelude.{◌≡◌, ◌+◌, ◌<◌, ◌≤◌, leng
 ghost use Rattle.rules.specs.DayFile.{u8_at, u16_at, u32_at, u64_at, record_from, command_width};
 ghost use Rattle.endian.specs.Numbers.{signed_of};
 
-use crate::EIGHT_MOST;
 use rules::Record;
 
-// A cast as a call: where a list's element is cast in place, the proof is asked that the element fits.
-fn wide_byte(x: u8) -> u16
-    ensures { (result ≡ x) × (result < 256) }
-{
-    x as u16
-}
-
+#[tactic(auto, unfolding(rules::specs::DayFile::u8_at))]
 pub fn u8_at(file: &[u8], at: usize) -> u8
     requires { at + 1 ≤ length file.now }
     ensures { result ≡ u8_at file.now at }
@@ -21,69 +14,61 @@ pub fn u8_at(file: &[u8], at: usize) -> u8
     file[at]
 }
 
+#[tactic(auto, unfolding(rules::specs::DayFile::u16_at, rules::specs::DayFile::u8_at))]
 pub fn u16_at(file: &[u8], at: usize) -> u16
     requires { at + 2 ≤ length file.now }
     ensures { result ≡ u16_at file.now at }
 {
-    let low = wide_byte(u8_at(file, at));
-    let high = wide_byte(u8_at(file, at + 1));
-    low + 256 * high
+    u16::from_le_bytes([file[at], file[at + 1]])
 }
 
+#[tactic(auto, unfolding(rules::specs::DayFile::u32_at, rules::specs::DayFile::u16_at, rules::specs::DayFile::u8_at))]
 pub fn u32_at(file: &[u8], at: usize) -> u32
     requires { at + 4 ≤ length file.now }
     ensures { result ≡ u32_at file.now at }
 {
-    let low = u16_at(file, at) as u32;
-    let high = u16_at(file, at + 2) as u32;
-    low + 65536 * high
+    u32::from_le_bytes([file[at], file[at + 1], file[at + 2], file[at + 3]])
 }
 
+#[tactic(auto, unfolding(rules::specs::DayFile::u64_at, rules::specs::DayFile::u32_at, rules::specs::DayFile::u16_at, rules::specs::DayFile::u8_at))]
 pub fn u64_at(file: &[u8], at: usize) -> u64
     requires { at + 8 ≤ length file.now }
     ensures { result ≡ u64_at file.now at }
 {
-    let low = u32_at(file, at) as u64;
-    let high = u32_at(file, at + 4) as u64;
-    low + 4294967296 * high
+    u64::from_le_bytes([
+        file[at],
+        file[at + 1],
+        file[at + 2],
+        file[at + 3],
+        file[at + 4],
+        file[at + 5],
+        file[at + 6],
+        file[at + 7],
+    ])
 }
 
-// Where the numbers below zero begin among a signed number's eight bytes: 2^63.
-const SIGN_END: u64 = 9223372036854775808;
-
 // A signed number from its eight bytes.
+#[tactic(auto, unfolding(crate::specs::Numbers::signed_of))]
 pub fn signed(n: u64) -> i64
     ensures { result ≡ signed_of n }
 {
-    if n < SIGN_END {
-        return n as i64;
-    }
-    let size = EIGHT_MOST - n;
-    let opposite = 0 - size as i64;
-    opposite - 1
+    n.cast_signed()
 }
 
 // "A command is 24 bytes"
+#[tactic(auto, unfolding(rules::specs::DayFile::record_from))]
 pub fn record_at(file: &[u8], at: usize) -> Record
     requires { at + command_width ≤ length file.now }
     ensures { result ≡ record_from file.now at }
 {
-    let kind = u8_at(file, at);
-    let account = u8_at(file, at + 1);
-    let contract = u8_at(file, at + 2);
-    let flags = u8_at(file, at + 3);
-    let lots = u32_at(file, at + 4);
-    let price = u32_at(file, at + 8);
-    let number = u32_at(file, at + 12);
-    let amount = u64_at(file, at + 16);
     Record {
-        kind: kind,
-        account: account,
-        contract: contract,
-        flags: flags,
-        lots: lots,
-        price: price,
-        number: number,
-        amount: amount,
+        kind: u8_at(file, at),
+        account: u8_at(file, at + 1),
+        contract: u8_at(file, at + 2),
+        flags: u8_at(file, at + 3),
+        lots: u32_at(file, at + 4),
+        price: u32_at(file, at + 8),
+        number: u32_at(file, at + 12),
+        amount: u64_at(file, at + 16),
     }
 }

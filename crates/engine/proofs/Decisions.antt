@@ -1,7 +1,10 @@
 -- From the code's decision to the rules' response: an outcome whose state is the one that the update leaves. Assumes nothing.
+use Rattle.std.proofs.Common.{Result}
+use Rattle.std.specs.Result.{IsErrAnd}
+use Rattle.std.proofs.lemmas.Result.{err_from_is_err_and}
 use mathlib.Core.Bool.{true, false, not, ◌&&◌}
 use mathlib.Core.List.{List}
-use mathlib.Core.Path.{◌≡◌, refl, sym, ap, subst, subst⁻¹}
+use mathlib.Core.Path.{◌≡◌, refl, ap, subst, subst⁻¹}
 use Prim.Native.Nat.{ℕ, ◌-◌, ◌<◌}
 use borrow.Author.Tests.{eqb-true}
 use lib.Dec.{eqb}
@@ -10,6 +13,7 @@ use lib.ListN.{get_or, set}
 use lib.Seq.{set-get_or}
 use Rattle.laws.specs.Choice.{both_true}
 use Rattle.rules.specs.Bounds.{continuous, in_auction, max_accounts, max_contracts}
+use Rattle.rules.specs.Codes.{code_in, code_number}
 use Rattle.rules.specs.Exchange.{is_absent, no_account, no_contract, place_of}
 use Rattle.rules.specs.Memory.{WellFormedState, memory, step_in}
 use Rattle.rules.specs.Step.{with_phase}
@@ -18,7 +22,8 @@ use Rattle.rules.specs.declared.Command.{Command}
 use Rattle.rules.specs.declared.Command.TheVariants.{Phase}
 use Rattle.rules.specs.declared.Contract.{Contract}
 use Rattle.rules.specs.declared.State.{State}
-use Rattle.engine.specs.Decision.{CarriedOut, DecisionIs, HeldBy, accepted_by, counted_as, left_for, listed_in, refused_by, with_listed}
+use Rattle.rules.specs.declared.codes.Code.{Code}
+use Rattle.engine.specs.Decision.{CarriedOut, DecisionIs, HeldBy, accepted_by, counted_as, decided, left_for, listed_in, refused_by, with_listed}
 use Rattle.engine.specs.Outcome.{OutcomeIs, accepted_with, is_match, refused_with, with_balance_at, with_counts_in, with_phase_at}
 use Rattle.engine.specs.declared.updates.Decision.{Decision}
 use Rattle.engine.specs.declared.updates.Listed.{Listed}
@@ -29,6 +34,14 @@ use Rattle.engine.specs.declared.updates.Update.TheVariants.{Balance, Left, List
 pub held_here : (s : State) (account : ℕ) {who : Account} → is_absent account s.accountcount ≡ false → HeldBy s account who
     → get_or s.accounts (account - 1) no_account ≡ who
 held_here s account present h = rw present at h
+
+-- ---- a code that a call gave, passed on by `?`
+
+pub code_passed : {A : Type 0} (r : Result A Code) (code : Code) → IsErrAnd r (λ y. y ≡ code) → code_in r ≡ code_number code
+code_passed r code is = let p = err_from_is_err_and r is in rw (p.1, p.2) refl
+
+pub refusal_passed : (r : Result Decision Code) (code : Code) → IsErrAnd r (λ y. y ≡ code) → decided r ≡ refused_by (code_number code)
+refusal_passed r code is = let p = err_from_is_err_and r is in rw (p.1, p.2) refl
 
 -- ---- a contract written back
 

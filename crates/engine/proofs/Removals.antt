@@ -1,6 +1,7 @@
 -- Cancel and pull: the code's tests are the rules' refusals, and the queues without the orders taken out are the rules' state.
 -- Assumes nothing.
-use mathlib.Core.Bool.{Bool, true, false, not, ◌&&◌, ◌||◌}
+use Rattle.std.proofs.Common.{Err, None, Ok, Some}
+use mathlib.Core.Bool.{Bool, true, false, not}
 use mathlib.Core.List.{List, [], ◌∷◌, ◌++◌, append_assoc}
 use mathlib.Core.Logic.{◌⊎◌, ◌≢◌, ⊎_elim}
 use mathlib.Core.Path.{◌≡◌, refl, sym, ap, ◌∙◌}
@@ -9,18 +10,20 @@ use native.Mathlib.Nat.{le_of_suc-le-suc, not-suc-le-zero, eq-or-lt_of_le}
 use native.Mathlib.Omega.{arith}
 use borrow.Author.Tests.{eq-eqb, ne_eqb}
 use lib.Dec.{eqb}
-use lib.ListN.{length, get_or, set, drop}
-use Rattle.laws.specs.Choice.{pick, all_of, all_of_at, either_true, for_either}
+use lib.ListN.{length, get_or, set}
+use Rattle.laws.specs.Choice.{pick, all_of, all_of_at}
 use Rattle.laws.specs.Sums.{sum_of_bound}
 use Rattle.areas.specs.Lists.{remove_at}
 use Rattle.areas.proofs.Lists.{length_remove_at}
 use Rattle.rules.specs.Kinds.{code_of, done, kind_of}
 use Rattle.rules.specs.Answers.{Refusal, cancel_refusals, first_of, no_such_order, numbered, of_another, owner_refusals, pull_refusals, removal_refused, resting_order}
-use Rattle.rules.specs.Bounds.{max_lots, in_auction, max_resting, max_contracts, continuous, no_trading}
+use Rattle.rules.specs.Codes.{code_number}
+use Rattle.rules.specs.Bounds.{max_lots, max_resting, max_contracts, continuous}
 use Rattle.rules.specs.Exchange as exchange
 use Rattle.rules.specs.Exchange.{listing_at, lots_where, no_listing, no_order, is_absent, place_of}
-use Rattle.rules.specs.Memory.{Memory, exchange_of, listing_in, order_from, put, put_queue, queue_in, step_in, memory, WellFormedState, first_word}
-use Rattle.book.specs.Places.{first_where, index_of}
+use Rattle.rules.specs.Memory.{Memory, exchange_of, listing_in, put, put_queue, queue_in, step_in, memory, WellFormedState, first_word}
+use Rattle.book.specs.Places.{FoundIs, first_where, index_of}
+use Rattle.book.specs.declared.orders.Found.{Found}
 use Rattle.rules.specs.Step.{Effect, answer_of, cancelled, has_number, is_of, listing_without, pulled, removed, with_listing, without}
 use Rattle.rules.specs.WellFormed.{all_numbers, numbers, order_in_range, used_once, all_listed}
 use Rattle.rules.specs.declared.Command.{Command}
@@ -28,7 +31,8 @@ use Rattle.rules.specs.declared.Command.TheVariants.{Cancel, Pull}
 use Rattle.rules.specs.declared.Contract.{Contract}
 use Rattle.rules.specs.declared.Order.{Order}
 use Rattle.rules.specs.declared.State.{State}
-use Rattle.theory.proofs.Codecs.{length_queue, order_at_lem, put_queue_lem}
+use Rattle.rules.specs.declared.codes.Code.{Code}
+use Rattle.theory.proofs.Codecs.{length_queue, put_queue_lem}
 use Rattle.theory.proofs.Queue.{length_without, once_append}
 use Rattle.theory.proofs.Refusals.{failed, first_append}
 use Rattle.book.proofs.Places.{index_apart, index_not_in, first_within, lots_none, lots_number, numbered_found, numbered_none, numbered_append_found, numbered_append_none, without_none, without_number}
@@ -36,9 +40,9 @@ use Rattle.book.specs.Removal.{RemovedIs}
 use Rattle.invariants.proofs.Clauses.{ListingOk, OrderOk, order_ok}
 use Rattle.engine.specs.Decision.{DecisionIs, accepted_by, counted_as, listed_in, refused_by}
 use Rattle.engine.specs.Outcome.{OutcomeIs, accepted_with, with_counts_in}
-use Rattle.engine.specs.Removal.{CancelledIs}
+use Rattle.engine.specs.Removal.{CancelledIs, code_there}
 use Rattle.engine.specs.declared.answers.Outcome.{Outcome}
-use Rattle.engine.specs.declared.removal.Cancelled.{Cancelled}
+use Rattle.engine.specs.declared.removal.Removed.{Removed}
 use Rattle.engine.specs.declared.updates.Decision.{Decision}
 use Rattle.engine.specs.declared.updates.Listed.{Listed}
 use Rattle.engine.specs.declared.updates.Update.{Update}
@@ -56,74 +60,49 @@ module _ (c : Contract) (operator : Bool) where
   unfolding removal_refused
   in_continuous e = sym (rw e)
 
-  pub in_auction_lem : in_auction c ≡ true → false ≡ removal_refused c operator
-  unfolding removal_refused
-  in_auction_lem e = sym (ap not (either_true (eqb c.phase continuous || eqb c.phase no_trading && operator) (in_auction c) e))
-
-  pub in_no_trading : c.phase ≡ no_trading → not operator ≡ removal_refused c operator
-  unfolding removal_refused
-  in_no_trading e = sym (rw e (for_either (λ b. not (eqb no_trading continuous || eqb no_trading no_trading && b || (in_auction (record c { phase = no_trading }))) ≡ not b) refl refl operator))
-
-  pub in_any_other : c.phase ≢ 1 → c.phase ≢ 2 → in_auction c ≡ false → true ≡ removal_refused c operator
-  unfolding removal_refused
-  in_any_other p q r = sym (rw (ne_eqb c.phase continuous p, ne_eqb c.phase no_trading q, r))
-
 -- ---- a cancel in one queue
 
 module _ (account number : ℕ) (area : List ℕ) (c n : ℕ) where
   abbrev queue : List Order
   queue = queue_in area c n
 
-  pub cancel_none : index_of number queue ≡ n → CancelledIs account number area c n (record { code = 14; count = n; lots = 0 }) area
+  pub cancel_none : FoundIs number queue None → code_there account number area c n ≡ 14
   unfolding first_of no_such_order
-  cancel_none h =
-      record {
-        code = rw (numbered_none number queue (h ∙ sym (length_queue area c n)));
-        done = λ e. absurd (omega arith);
-        kept = λ e. refl;
-      }
+  cancel_none h = rw (numbered_none number queue h)
 
-  -- i is the place found
-  module _ {i : ℕ} (is : i ≡ index_of number queue) (apart : i ≢ n) where
-    pub found : i < n
-    found = omega (arith, first_within (has_number number) queue, length_queue area c n, is, apart)
+  -- f is the order found
+  module _ {f : Found} (is : FoundIs number queue (Some f)) where
+    pub found : f.place < n
+    found = omega (arith, is.0, length_queue area c n)
 
     found_in : index_of number queue < length queue
-    found_in = omega (arith, found, is, length_queue area c n)
+    found_in = omega (arith, is.0, is.1)
 
-    order_found : numbered number queue ≡ order_from (drop (first_word c i) area) ∷ []
-    order_found = numbered_found number queue found_in ∙ ap (λ (o : Order). o ∷ []) (rw (← is) (order_at_lem area c n i found))
+    order_found : numbered number queue ≡ f.order ∷ []
+    order_found = numbered_found number queue found_in ∙ ap (λ (o : Order). o ∷ []) (rw (← is.1) (sym is.2))
 
-    pub cancel_another : ((order_from (drop (first_word c i) area)).account ≡ account → ⊥) → CancelledIs account number area c n (record { code = 15; count = n; lots = 0 }) area
+    pub cancel_another : (f.order.account ≡ account → ⊥) → code_there account number area c n ≡ 15
     unfolding first_of no_such_order of_another
-    cancel_another h =
-        record {
-          code = rw (order_found, ne_eqb (order_from (drop (first_word c i) area)).account account h);
-          done = λ e. absurd (omega arith);
-          kept = λ e. refl;
-        }
+    cancel_another h = rw (order_found, ne_eqb f.order.account account h)
 
     module _ (once : used_once (numbers queue) ≡ true) where
-      taken : without (has_number number) queue ≡ remove_at i queue
-      taken = without_number number queue once found_in ∙ rw is
+      taken : without (has_number number) queue ≡ remove_at f.place queue
+      taken = without_number number queue once found_in ∙ rw is.1
 
-      lots_taken : (order_from (drop (first_word c i) area)).lots ≡ lots_where (has_number number) queue
-      lots_taken = rw (lots_number number queue once found_in, ← is, order_at_lem area c n i found)
+      lots_taken : f.order.lots ≡ lots_where (has_number number) queue
+      lots_taken = rw (lots_number number queue once found_in, ← is.1) (ap (λ (o : Order). o.lots) is.2)
 
-      pub cancel_done : {area' : List ℕ} → (order_from (drop (first_word c i) area)).account ≡ account → area' ≡ put_queue area c n (remove_at i queue)
-          → CancelledIs account number area c n (record { code = 0; count = n - 1; lots = (order_from (drop (first_word c i) area)).lots }) area'
+      pub cancel_done : {area' : List ℕ} → f.order.account ≡ account → area' ≡ put_queue area c n (remove_at f.place queue)
+          → CancelledIs account number area c n (Ok (Some (record { count = n - 1; lots = f.order.lots }))) area'
       unfolding first_of no_such_order of_another
-      cancel_done h e =
-          record {
-            code = rw (order_found, eq-eqb (order_from (drop (first_word c i) area)).account account h);
-            done = λ z.
-                record {
-                  queue = rw taken e;
-                  count = rw (taken, length_remove_at i queue (omega (arith, found, length_queue area c n)), length_queue area c n);
-                  lots = lots_taken;
-                };
-            kept = λ z. absurd (z refl);
-          }
+      cancel_done h e = (
+        rw (order_found, eq-eqb f.order.account account h),
+        record {
+          queue = rw taken e;
+          count = rw (taken, length_remove_at f.place queue (omega (arith, found, length_queue area c n)), length_queue area c n);
+          lots = lots_taken;
+        },
+      )
 
 -- no order is taken out
 pub removed_none : (test : Order → Bool) (area : List ℕ) (c n : ℕ) → first_word c n ≤ length area → first_where test (queue_in area c n) ≡ length (queue_in area c n)
@@ -144,16 +123,16 @@ found_code : (a n : ℕ) (os : List Order) → first_of (owner_refusals a (numbe
 unfolding first_of no_such_order
 found_code a n os h = ⊎_elim (λ e. absurd (h (rw (numbered_none n os e)))) (λ l. l) (index_cases n os)
 
-missing_code : (a n : ℕ) (os : List Order) → first_of (owner_refusals a (numbered n os)) ≢ 0 → first_of (owner_refusals a (numbered n os)) ≢ 15 → index_of n os ≡ length os
-missing_code a n os h k =
-    ⊎_elim (λ e. e) (λ l. absurd (either (get_or os (index_of n os) no_order) (rw (numbered_found n os l) at h) (rw (numbered_found n os l) at k))) (index_cases n os)
+missing_code : (a n : ℕ) (os : List Order) → first_of (owner_refusals a (numbered n os)) ≡ 14 → index_of n os ≡ length os
+missing_code a n os h =
+    ⊎_elim (λ e. e) (λ l. absurd (either (get_or os (index_of n os) no_order) (rw (numbered_found n os l) at h))) (index_cases n os)
   where
-    code : (b : Bool) → ◌≢◌ {A = ℕ} (pick b 15 0) 0 → ◌≢◌ {A = ℕ} (pick b 15 0) 15 → ⊥
-    code true h k = k refl
-    code false h k = h refl
+    code : (b : Bool) → ◌≡◌ {A = ℕ} (pick b 15 0) 14 → ⊥
+    code true h = omega arith
+    code false h = omega arith
 
-    either : (o : Order) → first_of (owner_refusals a (o ∷ [])) ≢ 0 → first_of (owner_refusals a (o ∷ [])) ≢ 15 → ⊥
-    either o h k = unfold first_of no_such_order of_another in code (not (eqb o.account a)) h k
+    either : (o : Order) → first_of (owner_refusals a (o ∷ [])) ≡ 14 → ⊥
+    either o h = unfold first_of no_such_order of_another in code (not (eqb o.account a)) h
 
 -- "buys first"
 numbered_first : (n : ℕ) (os ps : List Order) → index_of n os < length os → numbered n (os ++ ps) ≡ numbered n os
@@ -320,53 +299,67 @@ module _ {s : State} {buys sells trades : List ℕ} (w : WellFormedState s buys 
         unfolding resting_order listing_in
         cancel_is = cancel_code number ∙ rw (none, listing_is)
 
-        module _ {owner : ℕ} (mine : owner ≡ place_of account) {bid : Cancelled} {buys' : List ℕ} (among_buys : CancelledIs owner number buys place l.bought bid buys') where
-          b : CancelledIs (place_of account) number buys place (count false) bid buys'
-          b = rw (mine, stands) at among_buys
+        module _ {owner : ℕ} (mine : owner ≡ place_of account) where
+          -- the code that a queue has
+          abbrev its_code : Bool → ℕ
+          its_code sell = code_there (place_of account) number (area sell) place (count sell)
 
-          -- bid.code ≢ 14
-          bid_code : bid.code ≢ 14 → code_of (exchange_of m) (Cancel account contract operator number) ≡ bid.code
+          -- the code of a queue that has the number
+          bid_code : its_code false ≢ 14 → code_of (exchange_of m) (Cancel account contract operator number) ≡ its_code false
           bid_code h =
               cancel_is
-              ∙ ap (λ (found : List Order). first_of (owner_refusals (place_of account) found)) (numbered_first number (orders false) (orders true) (found_code (place_of account) number (orders false) (λ e. h (b.code ∙ e))))
-              ∙ sym b.code
+              ∙ ap (λ (found : List Order). first_of (owner_refusals (place_of account) found)) (numbered_first number (orders false) (orders true) (found_code (place_of account) number (orders false) h))
 
-          pub bid_done : {u : Update} {d : Decision} → bid.code ≡ 0 → u ≡ Listing (counted_as l bid.count l.sold) → d ≡ accepted_by u number bid.lots → CancelIs d buys' sells
+          pub bid_done : {bid : Removed} {buys' : List ℕ} {u : Update} {d : Decision} → CancelledIs owner number buys place l.bought (Ok (Some bid)) buys'
+              → u ≡ Listing (counted_as l bid.count l.sold) → d ≡ accepted_by u number bid.lots → CancelIs d buys' sells
           unfolding kind_of cancelled
-          bid_done e n a =
+          bid_done {bid} {buys'} among n a =
+              let b : CancelledIs (place_of account) number buys place (count false) (Ok (Some bid)) buys' = rw (mine, stands) at among in
               counted_decided contract_fits
-              (removal_accepted (has_number number) (b.done e)
-              (removed_none (has_number number) sells place (count true) (side_room true) (apart number (found_code (place_of account) number (orders false) (λ z. omega (arith, b.code, e, z)))))
-              (Cancel account contract operator number) (bid_code (λ z. omega arith) ∙ e) refl refl (omega arith) refl)
+              (removal_accepted (has_number number) b.1
+              (removed_none (has_number number) sells place (count true) (side_room true) (apart number (found_code (place_of account) number (orders false) (λ z. omega (arith, b.0, z)))))
+              (Cancel account contract operator number) (bid_code (λ z. omega (arith, b.0, z)) ∙ b.0) refl refl (omega arith) refl)
               (a ∙ ap (λ (v : Update). accepted_by v number bid.lots) n ∙ ap (λ (v : Listed). accepted_by (Listing (counted_as v bid.count v.sold)) number bid.lots) stands)
 
-          pub bid_another : {d : Decision} → bid.code ≡ 15 → d ≡ refused_by 15 → CancelIs d buys' sells
-          bid_another e a =
-              refusal_decided
-              (rw (b.kept (λ z. omega arith)) (refusal s buys sells trades (Cancel account contract operator number) 15 (omega arith) (bid_code (λ z. omega arith) ∙ e) refl)) a
+          pub bid_another : {code : Code} {buys' : List ℕ} → CancelledIs owner number buys place l.bought (Err code) buys' → CancelIs (refused_by (code_number code)) buys' sells
+          bid_another {code} {buys'} among =
+              let b : CancelledIs (place_of account) number buys place (count false) (Err code) buys' = rw (mine, stands) at among in
+              rw (b.0, b.1.1)
+              (refusal_decided (refusal s buys sells trades (Cancel account contract operator number) 15 (omega arith) (bid_code (λ z. omega (arith, b.1.0, z)) ∙ b.1.0) refl) refl)
 
-          module _ (p : bid.code ≢ 0) (q : bid.code ≢ 15) {offer : Cancelled} {sells' : List ℕ} (among_sells : CancelledIs owner number sells place l.sold offer sells') where
-            o : CancelledIs (place_of account) number sells place (count true) offer sells'
-            o = rw (mine, stands) at among_sells
+          module _ {buys' : List ℕ} (among_buys : CancelledIs owner number buys place l.bought (Ok None) buys') where
+            b : CancelledIs (place_of account) number buys place (count false) (Ok None) buys'
+            b = rw (mine, stands) at among_buys
 
             missing : index_of number (orders false) ≡ length (orders false)
-            missing = missing_code (place_of account) number (orders false) (λ e. p (b.code ∙ e)) (λ e. q (b.code ∙ e))
+            missing = missing_code (place_of account) number (orders false) b.0
 
-            offer_code : code_of (exchange_of m) (Cancel account contract operator number) ≡ offer.code
-            offer_code = cancel_is ∙ ap (λ (found : List Order). first_of (owner_refusals (place_of account) found)) (numbered_append_none number (orders false) (orders true) missing) ∙ sym o.code
+            offer_code : code_of (exchange_of m) (Cancel account contract operator number) ≡ its_code true
+            offer_code = cancel_is ∙ ap (λ (found : List Order). first_of (owner_refusals (place_of account) found)) (numbered_append_none number (orders false) (orders true) missing)
 
-            pub offer_refused : {d : Decision} → offer.code ≢ 0 → d ≡ refused_by offer.code → CancelIs d buys' sells'
-            offer_refused e a =
-                refusal_decided
-                (rw (b.kept p, o.kept e) (refusal s buys sells trades (Cancel account contract operator number) offer.code (omega arith) offer_code refl)) a
+            offer_refused : (code : ℕ) {sells' : List ℕ} → 0 < code → its_code true ≡ code → sells' ≡ sells → CancelIs (refused_by code) buys' sells'
+            offer_refused code h e kept =
+                rw (b.1, kept) (refusal_decided (refusal s buys sells trades (Cancel account contract operator number) code h (offer_code ∙ e) refl) refl)
 
-            pub offer_done : {u : Update} {d : Decision} → offer.code ≡ 0 → u ≡ Listing (counted_as l l.bought offer.count) → d ≡ accepted_by u number offer.lots → CancelIs d buys' sells'
+            pub offer_another : {code : Code} {sells' : List ℕ} → CancelledIs owner number sells place l.sold (Err code) sells' → CancelIs (refused_by (code_number code)) buys' sells'
+            offer_another {code} {sells'} among =
+                let o : CancelledIs (place_of account) number sells place (count true) (Err code) sells' = rw (mine, stands) at among in
+                rw o.0 (offer_refused 15 (omega arith) o.1.0 o.1.1)
+
+            pub none_there : {sells' : List ℕ} → CancelledIs owner number sells place l.sold (Ok None) sells' → CancelIs (refused_by 14) buys' sells'
+            none_there {sells'} among =
+                let o : CancelledIs (place_of account) number sells place (count true) (Ok None) sells' = rw (mine, stands) at among in
+                offer_refused 14 (omega arith) o.0 o.1
+
+            pub offer_done : {offer : Removed} {sells' : List ℕ} {u : Update} {d : Decision} → CancelledIs owner number sells place l.sold (Ok (Some offer)) sells'
+                → u ≡ Listing (counted_as l l.bought offer.count) → d ≡ accepted_by u number offer.lots → CancelIs d buys' sells'
             unfolding kind_of cancelled
-            offer_done e n a =
+            offer_done {offer} {sells'} among n a =
+                let o : CancelledIs (place_of account) number sells place (count true) (Ok (Some offer)) sells' = rw (mine, stands) at among in
                 counted_decided contract_fits
-                (rw (b.kept p)
-                (removal_accepted (has_number number) (removed_none (has_number number) buys place (count false) (side_room false) missing) (o.done e)
-                (Cancel account contract operator number) (offer_code ∙ e) refl refl (omega arith) refl))
+                (rw b.1
+                (removal_accepted (has_number number) (removed_none (has_number number) buys place (count false) (side_room false) missing) o.1
+                (Cancel account contract operator number) (offer_code ∙ o.0) refl refl (omega arith) refl))
                 (a ∙ ap (λ (v : Update). accepted_by v number offer.lots) n ∙ ap (λ (v : Listed). accepted_by (Listing (counted_as v v.bought offer.count)) number offer.lots) stands)
 
       -- ---- pull

@@ -1,7 +1,8 @@
 -- What is decided of a command, against what the rules give and leave. Assumes nothing.
-use Rattle.std.specs.Prelude.{true, List, ◌≡◌, ℕ, ◌<◌, get_or, set}
+use Rattle.std.specs.Prelude.{true, Err, List, Ok, Result, ◌≡◌, ℕ, ◌<◌, get_or, set}
 use Rattle.laws.specs.Choice.{pick}
 use Rattle.rules.specs.Bounds.{continuous, max_accounts, max_contracts}
+use Rattle.rules.specs.Codes.{code_number}
 use Rattle.rules.specs.Exchange.{is_absent, no_account, no_contract, place_of}
 use Rattle.rules.specs.Memory.{Memory, WellFormedState, memory, step_in}
 use Rattle.rules.specs.Step.{answer_of}
@@ -10,6 +11,7 @@ use Rattle.rules.specs.declared.Answer.{Answer}
 use Rattle.rules.specs.declared.Command.{Command}
 use Rattle.rules.specs.declared.Command.TheVariants.{Phase, Settle, Quote}
 use Rattle.rules.specs.declared.State.{State}
+use Rattle.rules.specs.declared.codes.Code.{Code}
 use Rattle.engine.specs.Arrival.{ArrivedIs, Trades}
 use Rattle.engine.specs.Outcome.{OutcomeIs, is_match, with_accounts_in, with_balance_at}
 use Rattle.engine.specs.declared.answers.Outcome.{Outcome}
@@ -104,7 +106,7 @@ pub record LeftIs (m : Memory) (command : Command) (p : Pending) (buys sells tra
 
 -- the command that it is
 abbrev pub command_left : Remaining → Command
-command_left (Quoting account contract lots buy sell) = Quote account contract lots buy sell
+command_left (Quoting q) = Quote q.account q.contract q.lots q.buy q.sell
 command_left Settling = Settle
 
 -- it is this very command, and the areas are as they were
@@ -137,3 +139,8 @@ accepted_by update number lots = record { answer = answer_of 0 number 0 lots; up
 
 abbrev pub left_for : Update → Decision
 left_for update = record { answer = answer_of 0 0 0 0; update = update }
+
+-- what is decided by a kind that may refuse
+abbrev pub decided : Result Decision Code → Decision
+decided (Ok d) = d
+decided (Err code) = refused_by (code_number code)

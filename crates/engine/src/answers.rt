@@ -1,11 +1,14 @@
 // Answers, and the tests that several kinds share.
 ghost use Rattle.std.specs.Prelude.{◌≡◌, ◌<◌, ◌≤◌};
 ghost use Rattle.rules.specs.Bounds.{max_accounts, max_contracts};
+ghost use Rattle.rules.specs.Codes.{code_in, code_number};
 ghost use Rattle.rules.specs.Exchange.{is_absent};
 ghost use Rattle.engine.specs.Decision.{outcome_of};
 ghost use Rattle.engine.specs.Outcome.{AbsentIs, refused_with, accepted_with};
 
+use crate::updates;
 use crate::updates::Carried;
+use rules::codes::Code;
 use rules::{Answer, State};
 
 // An answer and the state after it.
@@ -16,12 +19,12 @@ pub struct Outcome {
 }
 
 // "a refusal gives three zeros and changes nothing"
-pub fn refused(state: State, code: u32) -> Outcome
-    ensures { result ≡ refused_with state code }
+pub fn refused(state: State, code: Code) -> Outcome
+    ensures { result ≡ refused_with state (code_number code) }
 {
     Outcome {
         answer: Answer {
-            code,
+            code: code.number(),
             number: 0,
             traded: 0,
             lots: 0,
@@ -50,20 +53,11 @@ pub fn carried(state: State, r: Carried) -> Outcome
     ensures { result ≡ outcome_of state r }
 {
     let mut next = state;
-    let listed = r.listed;
-    let c = listed.place;
-    let terms = listed.terms;
     let accounts = r.accounts;
-    let answer = r.answer;
     next.accounts = accounts;
-    next.contracts[c] = terms;
-    next.buycounts[c] = listed.bought;
-    next.sellcounts[c] = listed.sold;
-    next.tradecount = listed.recorded;
-    next.next = listed.next;
-    next.nextstamp = listed.nextstamp;
+    updates::write_listed(&mut next, r.listed);
     Outcome {
-        answer,
+        answer: r.answer,
         state: next,
     }
 }
@@ -72,23 +66,24 @@ pub fn carried(state: State, r: Carried) -> Outcome
 pub fn is_absent(number: u32, count: usize) -> bool
     ensures { result ≡ is_absent number count }
 {
-    if number == 0 {
-        return true;
-    }
-    count < laws::wide(number)
+    number == 0 || count < number as usize
 }
 
-// 2 and 3: "account 0 or absent", "contract 0 or absent"; 0 where both are there. It takes the state's two counts and not the state,
-// which a call would copy. Requires at most 32 accounts.
-pub fn absent_code(accounts: usize, contracts: usize, account: u32, contract: u32) -> u32
+// 2 and 3: "account 0 or absent", "contract 0 or absent". Requires at most 32 accounts.
+pub fn absent_code(
+    accounts: usize,
+    contracts: usize,
+    account: u32,
+    contract: u32,
+) -> Result<(), Code>
     requires { accounts ≤ max_accounts }
-    ensures { AbsentIs accounts contracts account contract result }
+    ensures { AbsentIs accounts contracts account contract (code_in result) }
 {
     if is_absent(account, accounts) {
-        return 2;
+        return Err(Code::NoSuchAccount);
     }
     if is_absent(contract, contracts) {
-        return 3;
+        return Err(Code::NoSuchContract);
     }
-    0
+    Ok(())
 }

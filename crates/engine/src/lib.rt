@@ -2,6 +2,7 @@
 #![tactic(auto)]
 
 pub mod answers;
+pub mod market;
 pub mod payments;
 pub mod removal;
 pub mod updates;

@@ -1,25 +1,25 @@
-// Deposit and withdraw. For our own crates: each asks for a well-formed state.
+// Deposit and withdraw. For our own crates: each reads a market, and asks for the account that it names.
 ghost use Rattle.std.specs.Prelude.{◌≡◌, pos, ◌+ℤ◌, ◌≤◌};
 ghost use Rattle.std.specs.Int.Signed.{lt_z};
 ghost use Rattle.rules.specs.Bounds.{balance_most, max_amount, max_balance};
 ghost use Rattle.rules.specs.Answers.{amount_refused};
-ghost use Rattle.rules.specs.Memory.{memory, WellFormedState};
 ghost use Rattle.rules.specs.declared.Command.TheVariants.{Deposit, Withdraw};
 ghost use Rattle.laws.specs.Bound.{Within};
-ghost use Rattle.engine.specs.Decision.{DecisionIs, HeldBy, accepted_by};
+ghost use Rattle.engine.specs.Decision.{DecisionIs, HeldBy, accepted_by, decided};
+ghost use Rattle.engine.specs.Market.{memory_of};
 ghost use Rattle.engine.specs.declared.updates.Update.TheVariants.{Balance};
 
+use crate::market::Market;
 use crate::updates::{Decision, Update};
 use crate::{answers, updates};
-use rules::{Account, State};
+use rules::Account;
+use rules::codes::Code;
 
+#[tactic(auto, unfolding(rules::specs::Answers::amount_refused))]
 fn amount_refused(amount: u64) -> bool
     ensures { result ≡ amount_refused amount }
 {
-    if amount < 1 {
-        return true;
-    }
-    rules::MAX_AMOUNT < amount
+    amount < 1 || rules::MAX_AMOUNT < amount
 }
 
 // "deposit lifts the balance above 10^18"
@@ -39,67 +39,57 @@ fn paid(place: usize, balance: i64) -> Decision
 
 // `who` is the account.
 pub fn deposit(
-    state: State,
+    market: &Market<'_>,
     who: Account,
-    buys: &[u32],
-    sells: &[u32],
-    trades: &[u32],
     account: u32,
     amount: u64,
-) -> Decision
-    requires { WellFormedState state buys.now sells.now trades.now × HeldBy state account who }
-    ensures { DecisionIs (memory state buys.now sells.now trades.now) (Deposit account amount) result buys.now sells.now trades.now }
+) -> Result<Decision, Code>
+    requires { HeldBy market.now.state.now account who }
+    ensures { DecisionIs (memory_of market.now) (Deposit account amount) (decided result) market.now.buys.now market.now.sells.now market.now.trades.now }
 {
-    if answers::is_absent(account, state.accountcount) {
-        return updates::refused(2);
+    if answers::is_absent(account, market.state.accountcount) {
+        return Err(Code::NoSuchAccount);
     }
     if amount_refused(amount) {
-        return updates::refused(16);
+        return Err(Code::AmountOutOfRange);
     }
-    let balance = who.balance;
-    if lifts_too_high(balance, amount) {
-        return updates::refused(16);
+    if lifts_too_high(who.balance, amount) {
+        return Err(Code::AmountOutOfRange);
     }
-    paid(laws::place_of(account), balance + amount as i64)
+    Ok(paid(laws::place_of(account), who.balance + amount as i64))
 }
 
 // `who` is the account.
-pub fn withdraw<'a>(
-    state: State,
+pub fn withdraw(
+    market: &Market<'_>,
     who: Account,
-    buys: &'a [u32],
-    sells: &'a [u32],
-    trades: &[u32],
     account: u32,
     amount: u64,
-) -> Decision
-    requires { WellFormedState state buys.now sells.now trades.now × HeldBy state account who }
-    ensures { DecisionIs (memory state buys.now sells.now trades.now) (Withdraw account amount) result buys.now sells.now trades.now }
+) -> Result<Decision, Code>
+    requires { HeldBy market.now.state.now account who }
+    ensures { DecisionIs (memory_of market.now) (Withdraw account amount) (decided result) market.now.buys.now market.now.sells.now market.now.trades.now }
 {
+    let state = market.state;
     if answers::is_absent(account, state.accountcount) {
-        return updates::refused(2);
+        return Err(Code::NoSuchAccount);
     }
     if amount_refused(amount) {
-        return updates::refused(16);
+        return Err(Code::AmountOutOfRange);
     }
     let place = laws::place_of(account);
     let left = who.balance - amount as i64;
-    let holdings = who.holdings;
-    let terms = state.contracts;
-    let buycounts = state.buycounts;
-    let sellcounts = state.sellcounts;
     let charged = margin::charged(
-        holdings,
-        terms,
+        who.holdings,
+        state.contracts,
         state.contractcount,
-        buys,
-        buycounts,
-        sells,
-        sellcounts,
+        market.buys,
+        state.buycounts,
+        market.sells,
+        state.sellcounts,
         place,
     );
     if margin::too_little(left, charged) {
-        return updates::refused(9);
+        return Err(Code::TooLittleMoney);
     }
-    paid(place, left)
+    Ok(paid(place, left))
 }

@@ -1,8 +1,8 @@
-// What is decided of a command: its answer, and what it changes in the state. The areas are written by then. The update is written where the
-// state stands, by whoever owns the state: one that a function takes and gives back is copied twice.
+// What is decided of a command that is not refused: its answer, and what it changes in the state. The areas are written by then. The
+// update is written where the state stands, by whoever owns the state: one that a function takes and gives back is copied twice.
 ghost use Rattle.std.specs.Prelude.{◌≡◌, ◌<◌};
 ghost use Rattle.rules.specs.Bounds.{max_contracts};
-ghost use Rattle.engine.specs.Decision.{accepted_by, left_for, listed_in, refused_by, with_listed};
+ghost use Rattle.engine.specs.Decision.{accepted_by, left_for, listed_in, with_listed};
 
 use rules::{Account, Answer, Contract, NewOrder, State, Taker};
 
@@ -44,16 +44,20 @@ pub enum Pending {
     Matching(u32),
 }
 
+// A quote as it is asked for.
+#[derive(Clone, Copy)]
+pub struct Quoted {
+    pub account: u32,
+    pub contract: u32,
+    pub lots: u32,
+    pub buy: u32,
+    pub sell: u32,
+}
+
 // What is left to do with the whole state.
 #[derive(Clone, Copy)]
 pub enum Remaining {
-    Quoting {
-        account: u32,
-        contract: u32,
-        lots: u32,
-        buy: u32,
-        sell: u32,
-    },
+    Quoting(Quoted),
     Settling,
 }
 
@@ -72,21 +76,6 @@ pub enum Update {
 pub struct Decision {
     pub answer: Answer,
     pub update: Update,
-}
-
-// "a refusal gives three zeros and changes nothing"
-pub fn refused(code: u32) -> Decision
-    ensures { result ≡ refused_by code }
-{
-    Decision {
-        answer: Answer {
-            code,
-            number: 0,
-            traded: 0,
-            lots: 0,
-        },
-        update: Update::Nothing,
-    }
 }
 
 // Nothing is traded: whoever trades is left for all accounts.
@@ -120,23 +109,32 @@ pub fn left(update: Update) -> Decision
 }
 
 // The contract at a place as it stands.
-pub fn listed_at(state: State, c: usize) -> Listed
+pub fn listed_at(state: &State, c: usize) -> Listed
     requires { c < max_contracts }
-    ensures { result ≡ listed_in state c }
+    ensures { result ≡ listed_in state.now c }
 {
-    let contracts = state.contracts;
-    let buycounts = state.buycounts;
-    let sellcounts = state.sellcounts;
-    let terms = contracts[c];
     Listed {
         place: c,
-        terms,
-        bought: buycounts[c],
-        sold: sellcounts[c],
+        terms: state.contracts[c],
+        bought: state.buycounts[c],
+        sold: state.sellcounts[c],
         recorded: state.tradecount,
         next: state.next,
         nextstamp: state.nextstamp,
     }
+}
+
+// A contract as it stands by now is written where the state stands.
+pub fn write_listed(state: &mut State, l: Listed)
+    requires { l.place < max_contracts }
+    ensures { state.new ≡ with_listed state.old l }
+{
+    state.contracts[l.place] = l.terms;
+    state.buycounts[l.place] = l.bought;
+    state.sellcounts[l.place] = l.sold;
+    state.tradecount = l.recorded;
+    state.next = l.next;
+    state.nextstamp = l.nextstamp;
 }
 
 // The state with a contract as it stands by now.
@@ -145,13 +143,6 @@ pub fn with_listed(state: State, l: Listed) -> State
     ensures { result ≡ with_listed state l }
 {
     let mut next = state;
-    let c = l.place;
-    let terms = l.terms;
-    next.contracts[c] = terms;
-    next.buycounts[c] = l.bought;
-    next.sellcounts[c] = l.sold;
-    next.tradecount = l.recorded;
-    next.next = l.next;
-    next.nextstamp = l.nextstamp;
+    write_listed(&mut next, l);
     next
 }

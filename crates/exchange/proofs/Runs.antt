@@ -1,8 +1,8 @@
 -- A run of commands, one after the other, is the rules' run. Assumes nothing.
 use mathlib.Core.Bool.{true, false}
 use mathlib.Core.List.{List}
-use mathlib.Core.Path.{◌≡◌, refl, sym, ap, ◌∙◌, subst, subst⁻¹}
-use Prim.Native.Nat.{ℕ, ◌+◌, ◌*◌, ◌/◌}
+use mathlib.Core.Path.{◌≡◌, refl, sym, ap, ◌∙◌, subst⁻¹}
+use Prim.Native.Nat.{ℕ, ◌+◌, ◌*◌}
 use native.Mathlib.Numerals.{add-one}
 use lib.ListN.{length}
 use Rattle.laws.specs.Tabulate.{tabulate, tabulate_last}
@@ -70,6 +70,3 @@ module _ {s₀ : State} {buys₀ sells₀ trades₀ bytes : List ℕ} {s : State
         sells_kept = l ∙ h.sells_kept;
         trades_kept = t ∙ h.trades_kept;
       }
-
-  pub running_done : k ≡ length bytes / command_width → memory s buys sells trades ≡ run m (whole_commands bytes)
-  running_done e = subst (λ (n : ℕ). memory s buys sells trades ≡ run m (first_commands bytes n)) e h.ran

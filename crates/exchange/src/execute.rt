@@ -8,6 +8,7 @@ ghost use Rattle.exchange.specs.Response.{ExecutedIs};
 use crate::settling::Response;
 use crate::{settling, step};
 use engine::answers;
+use rules::codes::Code;
 use rules::{Command, Record, State};
 
 // Code 21 comes before all that a command may say. For our own crates: it asks to be told whether the state is well formed.
@@ -23,7 +24,7 @@ pub fn respond(
     ensures { ExecutedIs (memory state buys.old sells.old trades.old) command result buys.new sells.new trades.new }
 {
     if !formed {
-        return settling::plain(answers::refused(state, 21));
+        return settling::plain(answers::refused(state, Code::StateNotWellFormed));
     }
     step::step(state, buys, sells, trades, command)
 }

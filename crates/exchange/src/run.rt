@@ -5,6 +5,7 @@ ghost use Rattle.rules.specs.Memory.{memory, WellFormedState};
 ghost use Rattle.exchange.specs.Run.{RanIs, whole_commands};
 
 use crate::step;
+use engine::updates;
 use engine::updates::Update;
 use rules::State;
 
@@ -21,46 +22,29 @@ fn run_through(
 {
     let n = bytes.len() / rules::COMMAND_WIDTH;
     let mut current = state;
-    let mut k: usize = 0;
-    while k < n {
+    for k in 0..n {
         let record = endian::reading::record_at(bytes, rules::COMMAND_WIDTH * k);
         let command = commands::command_of(record);
-        k += 1;
         let a = commands::account_place(command, current.accountcount);
         let who = current.accounts[a];
-        let decision = step::decide(current, who, buys, sells, &trades[..], command);
-        let update = decision.update;
-        let listed = match update {
-            Update::Nothing => {
-                continue;
-            }
-            Update::Balance { place, balance } => {
-                let mut holder = current.accounts[place];
-                holder.balance = balance;
-                current.accounts[place] = holder;
-                continue;
-            }
-            Update::Listing(l) => l,
+        let Ok(decision) = step::decide(&current, who, buys, sells, &trades[..], command) else {
+            continue;
+        };
+        match decision.update {
+            Update::Nothing => {}
+            Update::Balance { place, balance } => current.accounts[place].balance = balance,
+            Update::Listing(listed) => updates::write_listed(&mut current, listed),
             Update::Left(pending) => {
-                let t = step::carry_out(current, buys, sells, trades, pending);
+                let t = step::carry_out(&current, buys, sells, trades, pending);
                 let held = t.accounts;
                 current.accounts = held;
-                t.listed
+                updates::write_listed(&mut current, t.listed);
             }
             Update::Whole(remaining) => {
-                let r = step::carry_whole(current, buys, sells, trades, remaining);
+                let r = step::carry_whole(&current, buys, sells, trades, remaining);
                 current = r.state;
-                continue;
             }
-        };
-        let c = listed.place;
-        let terms = listed.terms;
-        current.contracts[c] = terms;
-        current.buycounts[c] = listed.bought;
-        current.sellcounts[c] = listed.sold;
-        current.tradecount = listed.recorded;
-        current.next = listed.next;
-        current.nextstamp = listed.nextstamp;
+        }
     }
     current
 }

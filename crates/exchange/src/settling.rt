@@ -2,14 +2,18 @@
 ghost use Rattle.std.specs.Prelude.{◌≡◌, ◌≤◌, eqb, get_or};
 ghost use Rattle.laws.specs.Choice.{all};
 ghost use Rattle.rules.specs.Bounds.{max_contracts, closed};
+ghost use Rattle.rules.specs.Codes.{code_in};
 ghost use Rattle.rules.specs.Kinds.{code_of};
 ghost use Rattle.rules.specs.Exchange.{no_contract};
 ghost use Rattle.rules.specs.Memory.{exchange_of, memory, WellFormedState};
 ghost use Rattle.rules.specs.declared.Command.TheVariants.{Settle};
+ghost use Rattle.engine.specs.Market.{memory_of};
 ghost use Rattle.exchange.specs.Response.{ResponseIs, no_report, with_report};
 
 use engine::answers;
 use engine::answers::Outcome;
+use engine::market::Market;
+use rules::codes::Code;
 use rules::{Answer, Contract, State};
 
 // What a settlement reports: each contract's settlement price; each account's closing and holding profit, and its charged
@@ -36,11 +40,9 @@ pub struct Response {
 pub fn plain(o: Outcome) -> Response
     ensures { result ≡ with_report o no_report }
 {
-    let state = o.state;
-    let answer = o.answer;
     Response {
-        answer,
-        state,
+        answer: o.answer,
+        state: o.state,
         report: Report {
             prices: [0; rules::MAX_CONTRACTS],
             closing: [0; rules::MAX_ACCOUNTS],
@@ -55,42 +57,36 @@ fn all_closed(contracts: [Contract; rules::MAX_CONTRACTS], n: usize) -> bool
     requires { n ≤ max_contracts }
     ensures { result ≡ all (λ c. eqb (get_or contracts c no_contract).phase closed) n }
 {
-    let mut c: usize = 0;
-    while c < n {
-        let contract = contracts[c];
-        if contract.phase != rules::CLOSED {
-            return false;
-        }
-        c += 1;
-    }
-    true
+    (0..n).all(|c| contracts[c].phase == rules::CLOSED)
 }
 
-// Codes 18 and 19, 0 where neither holds.
-fn code<'a>(state: State, buys: &'a [u32], sells: &'a [u32], trades: &'a [u32]) -> u32
-    requires { WellFormedState state buys.now sells.now trades.now }
-    ensures { result ≡ code_of (exchange_of (memory state buys.now sells.now trades.now)) Settle }
+// Codes 18 and 19.
+fn code(market: &Market<'_>) -> Result<(), Code>
+    ensures { code_in result ≡ code_of (exchange_of (memory_of market.now)) Settle }
 {
-    let contracts = state.contracts;
-    if !all_closed(contracts, state.contractcount) {
-        return 18;
+    if !all_closed(market.state.contracts, market.state.contractcount) {
+        return Err(Code::ContractNotClosed);
     }
-    if state.settlements >= rules::MAX_SETTLEMENTS {
-        return 19;
+    if market.state.settlements >= rules::MAX_SETTLEMENTS {
+        return Err(Code::SettlementsUsedUp);
     }
-    0
+    Ok(())
 }
 
-pub fn settle(state: State, buys: &mut [u32], sells: &mut [u32], trades: &mut [u32]) -> Response
-    requires { WellFormedState state buys.old sells.old trades.old }
-    ensures { ResponseIs (memory state buys.old sells.old trades.old) Settle result buys.new sells.new trades.new }
+pub fn settle(state: &State, buys: &mut [u32], sells: &mut [u32], trades: &mut [u32]) -> Response
+    requires { WellFormedState state.now buys.old sells.old trades.old }
+    ensures { ResponseIs (memory state.now buys.old sells.old trades.old) Settle result buys.new sells.new trades.new }
 {
-    let refusal = code(state, &buys[..], &sells[..], &trades[..]);
-    if refusal != 0 {
-        return plain(answers::refused(state, refusal));
+    let market = Market {
+        state,
+        buys: &buys[..],
+        sells: &sells[..],
+        trades: &trades[..],
+    };
+    if let Err(code) = code(&market) {
+        return plain(answers::refused(*state, code));
     }
-    let s = settlement::settle::settle(state, buys, sells, trades);
-    let next = s.state;
+    let s = settlement::settle::settle(*state, buys, sells, trades);
     let prices = s.prices;
     let closing = s.closing;
     let holding = s.holding;
@@ -102,7 +98,7 @@ pub fn settle(state: State, buys: &mut [u32], sells: &mut [u32], trades: &mut [u
             traded: 0,
             lots: 0,
         },
-        state: next,
+        state: s.state,
         report: Report {
             prices,
             closing,

@@ -2,7 +2,7 @@
 // our own crates.
 ghost use Rattle.rules.specs.Memory.{memory, WellFormedState};
 ghost use Rattle.commands.specs.Accounts.{account_number};
-ghost use Rattle.engine.specs.Decision.{Carriable, CarriedIs, HeldBy, command_left};
+ghost use Rattle.engine.specs.Decision.{Carriable, CarriedIs, HeldBy, command_left, decided};
 ghost use Rattle.exchange.specs.Decided.{DecidedIs};
 ghost use Rattle.exchange.specs.Response.{ResponseIs};
 
@@ -10,31 +10,34 @@ use crate::settling;
 use crate::settling::Response;
 use changing::Asked;
 use engine::answers::Outcome;
-use engine::updates::{Carried, Decision, Pending, Remaining, Update};
-use engine::{payments, removal, updates};
-use quoting::Quoted;
+use engine::market::Market;
+use engine::updates::{Carried, Decision, Pending, Quoted, Remaining, Update};
+use engine::{answers, payments, removal, updates};
+use rules::codes::Code;
 use rules::{Account, Command, State};
 
 // What is decided of a command. `who` is the account that it names.
 pub fn decide(
-    state: State,
+    state: &State,
     who: Account,
     buys: &mut [u32],
     sells: &mut [u32],
     trades: &[u32],
     command: Command,
-) -> Decision
-    requires { WellFormedState state buys.old sells.old trades.now × HeldBy state (account_number command) who }
-    ensures { DecidedIs (memory state buys.old sells.old trades.now) command result buys.new sells.new trades.now }
+) -> Result<Decision, Code>
+    requires { WellFormedState state.now buys.old sells.old trades.now × HeldBy state.now (account_number command) who }
+    ensures { DecidedIs (memory state.now buys.old sells.old trades.now) command (decided result) buys.new sells.new trades.now }
 {
+    let market = Market {
+        state,
+        buys: &buys[..],
+        sells: &sells[..],
+        trades,
+    };
     match command {
-        Command::Malformed => updates::refused(1),
-        Command::Deposit { account, amount } => {
-            payments::deposit(state, who, &buys[..], &sells[..], trades, account, amount)
-        }
-        Command::Withdraw { account, amount } => {
-            payments::withdraw(state, who, &buys[..], &sells[..], trades, account, amount)
-        }
+        Command::Malformed => Err(Code::Malformed),
+        Command::Deposit { account, amount } => payments::deposit(&market, who, account, amount),
+        Command::Withdraw { account, amount } => payments::withdraw(&market, who, account, amount),
         Command::Insert(o) => insertion::insert(state, who, buys, sells, trades, o),
         Command::Cancel {
             account,
@@ -49,10 +52,8 @@ pub fn decide(
             contract,
             operator,
         } => removal::pull(state, buys, sells, trades, account, contract, operator),
-        Command::Phase { contract, phase } => {
-            phases::change(state, &buys[..], &sells[..], trades, contract, phase)
-        }
-        Command::Settle => updates::left(Update::Whole(Remaining::Settling)),
+        Command::Phase { contract, phase } => phases::change(&market, contract, phase),
+        Command::Settle => Ok(updates::left(Update::Whole(Remaining::Settling))),
         Command::Quote {
             account,
             contract,
@@ -98,14 +99,14 @@ pub fn decide(
 
 // What is left of a command, carried out with all accounts.
 pub fn carry_out(
-    state: State,
+    state: &State,
     buys: &mut [u32],
     sells: &mut [u32],
     trades: &mut [u32],
     pending: Pending,
 ) -> Carried
-    requires { Carriable state pending buys.old sells.old trades.old }
-    ensures { CarriedIs state pending buys.old sells.old trades.old result buys.new sells.new trades.new }
+    requires { Carriable state.now pending buys.old sells.old trades.old }
+    ensures { CarriedIs state.now pending buys.old sells.old trades.old result buys.new sells.new trades.new }
 {
     match pending {
         Pending::Trading(a) => {
@@ -120,25 +121,17 @@ pub fn carry_out(
 
 // What is left of a command, carried out on the whole state.
 pub fn carry_whole(
-    state: State,
+    state: &State,
     buys: &mut [u32],
     sells: &mut [u32],
     trades: &mut [u32],
     remaining: Remaining,
 ) -> Response
-    requires { WellFormedState state buys.old sells.old trades.old }
-    ensures { ResponseIs (memory state buys.old sells.old trades.old) (command_left remaining) result buys.new sells.new trades.new }
+    requires { WellFormedState state.now buys.old sells.old trades.old }
+    ensures { ResponseIs (memory state.now buys.old sells.old trades.old) (command_left remaining) result buys.new sells.new trades.new }
 {
     match remaining {
-        Remaining::Quoting {
-            account,
-            contract,
-            lots,
-            buy,
-            sell,
-        } => settling::plain(quoting::trade(
-            state, buys, sells, trades, account, contract, lots, buy, sell,
-        )),
+        Remaining::Quoting(q) => settling::plain(quoting::trade(state, buys, sells, trades, q)),
         Remaining::Settling => settling::settle(state, buys, sells, trades),
     }
 }
@@ -156,45 +149,26 @@ pub fn step(
     let mut next = state;
     let a = commands::account_place(command, next.accountcount);
     let who = next.accounts[a];
-    let decision = decide(next, who, buys, sells, &trades[..], command);
+    let decision = match decide(&next, who, buys, sells, &trades[..], command) {
+        Ok(decision) => decision,
+        Err(code) => return settling::plain(answers::refused(next, code)),
+    };
     let mut answer = decision.answer;
-    let update = decision.update;
-    let listed = match update {
-        Update::Nothing => {
-            return settling::plain(Outcome {
-                answer,
-                state: next,
-            });
-        }
-        Update::Balance { place, balance } => {
-            let mut holder = next.accounts[place];
-            holder.balance = balance;
-            next.accounts[place] = holder;
-            return settling::plain(Outcome {
-                answer,
-                state: next,
-            });
-        }
-        Update::Listing(l) => l,
+    match decision.update {
+        Update::Nothing => {}
+        Update::Balance { place, balance } => next.accounts[place].balance = balance,
+        Update::Listing(listed) => updates::write_listed(&mut next, listed),
         Update::Left(pending) => {
-            let t = carry_out(next, buys, sells, trades, pending);
+            let t = carry_out(&next, buys, sells, trades, pending);
             let held = t.accounts;
             next.accounts = held;
+            updates::write_listed(&mut next, t.listed);
             answer = t.answer;
-            t.listed
         }
         Update::Whole(remaining) => {
-            return carry_whole(next, buys, sells, trades, remaining);
+            return carry_whole(&next, buys, sells, trades, remaining);
         }
-    };
-    let c = listed.place;
-    let terms = listed.terms;
-    next.contracts[c] = terms;
-    next.buycounts[c] = listed.bought;
-    next.sellcounts[c] = listed.sold;
-    next.tradecount = listed.recorded;
-    next.next = listed.next;
-    next.nextstamp = listed.nextstamp;
+    }
     settling::plain(Outcome {
         answer,
         state: next,

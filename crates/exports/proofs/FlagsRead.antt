@@ -8,7 +8,7 @@ use Rattle.rules.specs.declared.PriceCondition.{PriceCondition}
 use Rattle.rules.specs.declared.PriceCondition.TheVariants.{Limit, Market, Best}
 use Rattle.rules.specs.declared.TimeCondition.{TimeCondition}
 use Rattle.rules.specs.declared.TimeCondition.TheVariants.{GoodForDay, ImmediateOrCancel, FillOrKill}
-use Rattle.exports.specs.Flags.{InsertFlagsRead, price_flag, time_flag}
+use Rattle.exports.specs.Flags.{InsertFlagsRead, RemovalFlagsRead, price_flag, time_flag}
 
 abbrev together : Bool → Bool → PriceCondition → TimeCondition → ℕ
 together sell close condition time = pick sell 1 0 + pick close 2 0 + price_flag condition + time_flag time
@@ -55,3 +55,8 @@ read_back false false Best FillOrKill = record { known = refl; side = refl; clos
 pub insert_read : {sell close : Bool} {condition : PriceCondition} {time : TimeCondition} {a b c d : ℕ} → a ≡ pick sell 1 0 → b ≡ pick close 2 0 → c ≡ price_flag condition → d ≡ time_flag time
     → InsertFlagsRead sell close condition time (a + b + c + d)
 insert_read {sell} {close} {condition} {time} ea eb ec ed = rw (ea, eb, ec, ed) (read_back sell close condition time)
+
+pub removal_read : (operator : Bool) {flags : ℕ} → flags ≡ pick operator 1 0 → RemovalFlagsRead operator flags
+unfolding bits
+removal_read true e = rw e (record { known = refl; bit_0 = refl })
+removal_read false e = rw e (record { known = refl; bit_0 = refl })

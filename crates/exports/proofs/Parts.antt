@@ -1,12 +1,12 @@
--- One side's orders as a part of their area: the count that a state has of them, and where the part stands. Assumes nothing.
+-- One side's orders as a part of their area: where the part stands. Assumes nothing.
 use mathlib.Core.Bool.{Bool, true, false, ◌||◌}
 use mathlib.Core.List.{List, [], ◌∷◌}
 use mathlib.Core.Path.{◌≡◌, refl, sym, ap, ◌∙◌}
-use Prim.Native.Nat.{ℕ, ◌-◌, ◌*◌, ◌<◌, ◌≤◌}
+use Prim.Native.Nat.{ℕ, ◌-◌, ◌*◌, ◌≤◌}
 use native.Mathlib.Omega.{arith}
-use borrow.Author.Tests.{eq-eqb, eqb-false, le-leb, lt-leb, ltb-false, ne_eqb}
+use borrow.Author.Tests.{eq-eqb, eqb-false, ltb-false, ne_eqb}
 use lib.Dec.{eqb, ltb}
-use lib.ListN.{length, get_or, take, drop}
+use lib.ListN.{length, take, drop}
 use Rattle.laws.specs.Choice.{either_false, pick}
 use Rattle.rules.specs.Bounds.{max_contracts, max_resting}
 use Rattle.rules.specs.Memory.{first_word, queue_stride}
@@ -14,30 +14,6 @@ use Rattle.rules.specs.declared.State.{State}
 use Rattle.rules.specs.Side.{no_queue, queue_words, side_words}
 use Rattle.book.proofs.Sides.{side_length}
 use Rattle.exports.specs.Calls.{SideIs, asked_count, asked_words}
-
--- ---- the state's count
-
-module _ (state : State) (sell : Bool) (contract : ℕ) where
-  pub no_number : contract < 1 → 0 ≡ asked_count state sell contract
-  unfolding asked_count
-  no_number h = rw (lt-leb 1 contract h)
-
-  pub no_place : max_contracts < contract → 0 ≡ asked_count state sell contract
-  unfolding asked_count
-  no_place h =
-      let some : 1 ≤ contract = omega arith in
-      rw (le-leb 1 contract some, lt-leb contract max_contracts h)
-
-  module _ (some : 1 ≤ contract) (placed : contract ≤ max_contracts) where
-    pub count_of_sells : sell ≡ true → get_or state.sellcounts (contract - 1) 0 ≡ asked_count state sell contract
-    unfolding asked_count
-    count_of_sells e = rw (le-leb 1 contract some, le-leb contract max_contracts placed, e)
-
-    pub count_of_buys : sell ≡ false → get_or state.buycounts (contract - 1) 0 ≡ asked_count state sell contract
-    unfolding asked_count
-    count_of_buys e = rw (le-leb 1 contract some, le-leb contract max_contracts placed, e)
-
--- ---- where the queue asked for stands
 
 module _ (buys sells : List ℕ) (sell : Bool) (contract contracts count : ℕ) where
   no_words : no_queue (pick sell sells buys) contract contracts count ≡ true → side_words buys sells sell contract contracts count ≡ []
@@ -74,7 +50,11 @@ nothing : (l : List ℕ) → length l ≡ 0 → [] ≡ l
 nothing [] e = refl
 nothing (x ∷ l) e = absurd (omega arith)
 
-module _ (state : State) (buys sells : List ℕ) (sell : Bool) (contract : ℕ) {queue : List ℕ} (is : queue ≡ asked_words state buys sells sell contract) where
+module _ (state : State) (buys sells : List ℕ) (sell : Bool) (contract : ℕ) {count : ℕ} {queue : List ℕ}
+    (counted : count ≡ asked_count state sell contract) (given : queue ≡ side_words buys sells sell contract state.contractcount count) where
+  is : queue ≡ asked_words state buys sells sell contract
+  is = rw counted at given
+
   pub empty_part : length queue ≡ 0 → SideIs state buys sells sell contract (record { first = 0; words = 0 })
   empty_part e =
       let none : length (asked_words state buys sells sell contract) ≡ 0 = ap length (sym is) ∙ e in

@@ -9,16 +9,11 @@ use crate::{
 };
 use rules::{PriceCondition, TimeCondition};
 
-fn side_flag(sell: bool) -> u8
-    ensures { (result ≡ pick sell 1 0) × (result ≤ 1) }
+// A flag where it is set.
+fn flag_if(set: bool, flag: u8) -> u8
+    ensures { (result ≡ pick set flag 0) × (result ≤ flag) }
 {
-    if sell { FLAG_SELL } else { 0 }
-}
-
-fn close_flag(close: bool) -> u8
-    ensures { (result ≡ pick close 2 0) × (result ≤ 2) }
-{
-    if close { FLAG_CLOSE } else { 0 }
+    if set { flag } else { 0 }
 }
 
 fn price_flag(condition: PriceCondition) -> u8
@@ -45,12 +40,12 @@ fn time_flag(time: TimeCondition) -> u8
 pub fn insert_flags(sell: bool, close: bool, condition: PriceCondition, time: TimeCondition) -> u8
     ensures { InsertFlagsRead sell close condition time result }
 {
-    side_flag(sell) + close_flag(close) + price_flag(condition) + time_flag(time)
+    flag_if(sell, FLAG_SELL) + flag_if(close, FLAG_CLOSE) + price_flag(condition) + time_flag(time)
 }
 
 // The flags of a cancel and of a pull: the rules read the operator's bit in them.
 pub fn removal_flags(operator: bool) -> u8
     ensures { RemovalFlagsRead operator result }
 {
-    if operator { FLAG_OPERATOR } else { 0 }
+    flag_if(operator, FLAG_OPERATOR)
 }

@@ -1,6 +1,7 @@
 // The library for programs in other languages. Each export is a proved call under a C name: none requires anything, and each
 // promises what that call promises, by the same definition, but for a day file opened and one side's orders, which have definitions of
 // their own. `tools/make_header.py` makes `include/zelvorm.h` from this file, and what stands above a call here stands above it there.
+// Some calls look alike, since each only passes its arguments on: C needs a name for each.
 #![tactic(auto)]
 
 ghost use Rattle.std.specs.Prelude.{◌≡◌, ◌/◌, length};

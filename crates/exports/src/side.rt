@@ -12,6 +12,7 @@ pub struct Part {
     pub words: usize,
 }
 
+#[tactic(auto, unfolding(crate::specs::Calls::asked_count))]
 fn count_of(state: State, sell: bool, contract: usize) -> usize
     ensures { result ≡ asked_count state sell contract }
 {

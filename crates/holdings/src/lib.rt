@@ -9,32 +9,24 @@ ghost use Rattle.holdings.specs.Bounds.{HoldingWithin, booked_most};
 
 use rules::{Account, Holding};
 
-// What a close leaves: no less than none.
-fn lowered(held: u32, lots: u32) -> u32
-    ensures { result ≡ held - lots }
-{
-    if held < lots { 0 } else { held - lots }
-}
-
-// Buy open adds long, sell open adds short, sell close lowers long, buy close lowers short.
+// Buy open adds long, sell open adds short, sell close lowers long, buy close lowers short. A close leaves no less than none.
+#[tactic(auto, unfolding(rules::specs::Holdings::after_leg))]
 pub fn after_leg(h: Holding, sell: bool, close: u32, lots: u32) -> Holding
     requires { (lots ≤ max_lots) × HoldingWithin booked_most h }
     ensures { result ≡ after_leg h sell close lots }
 {
     let mut x = h;
-    let long = h.long;
-    let short = h.short;
     if sell {
         if close == 0 {
-            x.short = short + lots;
+            x.short += lots;
         } else {
-            x.long = lowered(long, lots);
+            x.long = h.long.saturating_sub(lots);
         }
     } else {
         if close == 0 {
-            x.long = long + lots;
+            x.long += lots;
         } else {
-            x.short = lowered(short, lots);
+            x.short = h.short.saturating_sub(lots);
         }
     }
     x
@@ -46,9 +38,6 @@ pub fn book_leg(a: Account, c: usize, sell: bool, close: u32, lots: u32) -> Acco
     ensures { result ≡ with_holding a c (after_leg (get_or a.holdings c no_holding) sell close lots) }
 {
     let mut b = a;
-    let mut holdings = a.holdings;
-    let h = holdings[c];
-    holdings[c] = after_leg(h, sell, close, lots);
-    b.holdings = holdings;
+    b.holdings[c] = after_leg(a.holdings[c], sell, close, lots);
     b
 }

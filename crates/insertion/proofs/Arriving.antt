@@ -1,20 +1,17 @@
 -- An order about to enter: one that meets no counterpart rests alone, whatever the accounts are; another sweeps the opposite queue and its
 -- remainder rests. Assumes nothing.
-use mathlib.Core.Bool.{Bool, true, false, not, ◌||◌}
+use mathlib.Core.Bool.{Bool, true, false, not}
 use mathlib.Core.List.{List, [], ◌∷◌}
 use mathlib.Core.Path.{◌≡◌, refl, sym, ap, ◌∙◌, subst, subst⁻¹}
-use Prim.Native.Nat.{ℕ, ◌-◌, ◌<◌, ◌≤◌}
+use Prim.Native.Nat.{ℕ, ◌-◌, ◌≤◌}
 use native.Mathlib.Omega.{arith}
 use borrow.Author.Tests.{eq-eqb, ne_eqb, not-true}
-use denote.Enum.Declared.{tag_of}
-use lib.ListN.{length, get_or, drop}
-use types.Run.{OneOf, miss}
-use Rattle.laws.specs.Choice.{pick, pick_true, pick_false, either_false}
+use lib.ListN.{length}
+use Rattle.laws.specs.Choice.{pick_false, either_false}
 use Rattle.rules.specs.Answers.{is_good_for_day}
-use Rattle.rules.specs.Bounds.{in_auction, max_contracts}
-use Rattle.rules.specs.Exchange.{no_order}
+use Rattle.rules.specs.Bounds.{in_auction}
 use Rattle.rules.specs.Matching.{Entered, counterpart, enter, rest_lots, rest_whole, rested_lots, sweep, traded_lots, untouched}
-use Rattle.rules.specs.Memory.{first_word, memory, order_from, put_queue, queue_in, step_in}
+use Rattle.rules.specs.Memory.{first_word, memory, put_queue, queue_in, step_in}
 use Rattle.rules.specs.Step.{answer_of, limit_of}
 use Rattle.rules.specs.declared.Account.{Account}
 use Rattle.rules.specs.declared.Answer.{Answer}
@@ -22,18 +19,18 @@ use Rattle.rules.specs.declared.Command.{Command}
 use Rattle.rules.specs.declared.Order.{Order}
 use Rattle.rules.specs.declared.State.{State}
 use Rattle.rules.specs.declared.Taker.{Taker}
-use Rattle.theory.proofs.Codecs.{length_queue, order_at_lem, put_queue_lem}
+use Rattle.theory.proofs.Codecs.{length_queue, put_queue_lem}
+use Rattle.std.proofs.Common.{None, Some}
+use Rattle.book.specs.Places.{front}
 use Rattle.theory.proofs.Fillable.{traded_nil}
 use Rattle.theory.proofs.Sweep.{sweep_end, sweep_unmet}
 use Rattle.book.proofs.Trading.{all_booked}
 use Rattle.matching.specs.Entry.{EntryIs, EntryReady}
-use Rattle.matching.specs.Sweep.{SweepReady}
 use Rattle.matching.specs.declared.entry.Entry.{Entry}
-use Rattle.engine.specs.Arrival.{Arrived, Arrives, ArrivedIs, Arriving, ArrivalReady, Trades, entered_for, entered_on, orders_on}
+use Rattle.engine.specs.Arrival.{Arrived, ArrivedIs, Arriving, ArrivalReady, entered_for, entered_on, orders_on}
 use Rattle.engine.specs.Decision.{CarriedOut, DecisionIs, LeftIs, UpdateIs, accepted_by, left_for, outcome_of}
 use Rattle.engine.specs.Outcome.{OutcomeIs}
 use Rattle.engine.specs.Sides.{side_area}
-use Rattle.engine.specs.contracts.updates.Update.{the_type}
 use Rattle.engine.specs.declared.updates.Arrival.{Arrival}
 use Rattle.engine.specs.declared.updates.Carried.{Carried}
 use Rattle.engine.specs.declared.updates.Decision.{Decision}
@@ -46,47 +43,29 @@ use Rattle.insertion.specs.Entry.{ArriveIs, ArriveOn, ArrivedTo, DecidedAs, Trad
 
 -- ---- the front of the opposite queue
 
-unmet_none : (t : Taker) (queue : List Order) → length queue ≡ 0 → true ≡ unmet t queue
-unmet_none t [] e = refl
-unmet_none t (o ∷ os) e = absurd (omega arith)
-
-unmet_first : (t : Taker) (queue : List Order) {o : Order} → (length queue ≡ 0 → ⊥) → (d : Order) → o ≡ get_or queue 0 d → not (counterpart t o) ≡ unmet t queue
-unmet_first t [] some d e = absurd (some refl)
-unmet_first t (p ∷ ps) some d e = rw e
-
-module _ (a : Arrival) (area : List ℕ) (count : ℕ) where
-  abbrev queue : List Order
-  queue = queue_in area a.listed.place count
-
+module _ (a : Arrival) (queue : List Order) where
   pub alone_auction : a.listed.terms.phase ≡ 4 → true ≡ rests_alone a queue
   alone_auction e = rw (eq-eqb a.listed.terms.phase 4 e)
 
-  module _ (elsewhere : a.listed.terms.phase ≡ 4 → ⊥) where
-    pub alone_empty : count ≡ 0 → true ≡ rests_alone a queue
-    alone_empty e = rw (ne_eqb a.listed.terms.phase 4 elsewhere) (unmet_none a.taker queue (length_queue area a.listed.place count ∙ e))
+unmet_none : (t : Taker) (queue : List Order) → front queue ≡ None → true ≡ unmet t queue
+unmet_none t [] e = refl
+unmet_none t (o ∷ os) e = cc
 
-    pub alone_unmet : {o : Order} {met : Bool} → (count ≡ 0 → ⊥) → o ≡ order_from (drop (first_word a.listed.place 0) area) → met ≡ counterpart a.taker o → not met ≡ rests_alone a queue
-    alone_unmet some e m =
-        rw (ne_eqb a.listed.terms.phase 4 elsewhere, m)
-        (unmet_first a.taker queue (λ z. some (sym (length_queue area a.listed.place count) ∙ z)) no_order (e ∙ sym (order_at_lem area a.listed.place count 0 (omega arith))))
+unmet_first : (t : Taker) (queue : List Order) {o : Order} → front queue ≡ Some o → not (counterpart t o) ≡ unmet t queue
+unmet_first t [] e = cc
+unmet_first t (p ∷ ps) {o} e = let same : o ≡ p = cc in rw same refl
+
+module _ (a : Arrival) (queue : List Order) (elsewhere : a.listed.terms.phase ≡ 4 → ⊥) where
+  pub alone_empty : front queue ≡ None → true ≡ rests_alone a queue
+  alone_empty e = rw (ne_eqb a.listed.terms.phase 4 elsewhere) (unmet_none a.taker queue e)
+
+  pub alone_unmet : {o : Order} {met : Bool} → front queue ≡ Some o → met ≡ counterpart a.taker o → not met ≡ rests_alone a queue
+  alone_unmet e m = rw (ne_eqb a.listed.terms.phase 4 elsewhere, m) (unmet_first a.taker queue e)
 
 -- the sweep stops before its first trade
 unmet_sweep : (t : Taker) (left last : ℕ) (queue : List Order) → unmet t queue ≡ true → sweep t left last queue ≡ untouched queue
 unmet_sweep t left last [] e = sweep_end t left last
 unmet_sweep t left last (o ∷ os) e = sweep_unmet t left last o os (not-true (counterpart t o) e)
-
--- ---- the lots that rest of it
-
-module _ (a : Arrival) where
-  pub rested_auction : a.listed.terms.phase ≡ 4 → a.order.lots ≡ rested_alone a
-  rested_auction e = rw (eq-eqb a.listed.terms.phase 4 e)
-
-  module _ (elsewhere : a.listed.terms.phase ≡ 4 → ⊥) {day : Bool} (ed : day ≡ is_good_for_day a.order.time) where
-    pub rested_day : day ≡ true → a.order.lots ≡ rested_alone a
-    rested_day e = rw (ne_eqb a.listed.terms.phase 4 elsewhere, sym ed ∙ e)
-
-    pub rested_none : day ≡ false → 0 ≡ rested_alone a
-    rested_none e = rw (ne_eqb a.listed.terms.phase 4 elsewhere, sym ed ∙ e)
 
 -- ---- left to trade
 
@@ -191,18 +170,6 @@ module _ {a : Arrival} {owns : List ℕ} {own : ℕ} {opposites : List ℕ} {opp
 -- ---- the same of the areas as they are lent, for a side as the code tells it
 
 module _ {a : Arrival} (buys sells : List ℕ) (side : Bool) (es : a.taker.sell ≡ side) where
-  pub on_side : Arrives a buys sells → Arriving a (side_area side buys sells) (orders_on side a.listed) (side_area (not side) buys sells) (orders_on (not side) a.listed)
-  on_side = rw es (λ arrives. arrives)
-
-  pub trades_side : {accounts : List Account} {area : List ℕ} → Trades accounts a buys sells area
-      → TradesOn accounts a (side_area side buys sells) (orders_on side a.listed) (side_area (not side) buys sells) (orders_on (not side) a.listed) area
-  trades_side {accounts} {area} t =
-      record {
-        arrives = on_side t.ready.arrives;
-        matched = t.matched;
-        sweeps = subst (λ (b : Bool). SweepReady a.taker a.order.lots a.listed.terms.last accounts (side_area (not b) buys sells) (orders_on (not b) a.listed) area a.listed.recorded) es (t.ready.sweeps t.matched);
-      }
-
   pub side_traded : {accounts : List Account} {area : List ℕ} {r : Carried} (buys' sells' : List ℕ) {area' : List ℕ}
       → TradedOn accounts a (side_area side buys sells) (orders_on side a.listed) (side_area (not side) buys sells) (orders_on (not side) a.listed) area r (side_area side buys' sells') (side_area (not side) buys' sells') area'
       → ArrivedIs accounts a buys sells area r buys' sells' area'
@@ -238,25 +205,6 @@ module _ {a : Arrival} {buys sells : List ℕ} {d : Decision} {buys' sells' : Li
   pub listing_entered : {l : Listed} → d.update ≡ Listing l → (accounts : List Account) (area : List ℕ)
       → ArrivedIs accounts a buys sells area (record { accounts = accounts; listed = l; answer = d.answer }) buys' sells' area
   listing_entered e = told e
-
-  -- nothing else is left of an order but that it trades
-  module _ (other : OneOf (0 ∷ 1 ∷ 3 ∷ 4 ∷ []) (tag_of the_type d.update)) where
-    pub untouched_then : (in_auction a.listed.terms ≡ false) × (buys' ≡ buys) × (sells' ≡ sells)
-    untouched_then = by_update d.answer d.update other k.told
-      where
-        by_update : (answer : Answer) (u : Update) → OneOf (0 ∷ 1 ∷ 3 ∷ 4 ∷ []) (tag_of the_type u) → DecidedAs a buys sells answer u buys' sells' → (in_auction a.listed.terms ≡ false) × (buys' ≡ buys) × (sells' ≡ sells)
-        by_update answer Nothing o k = absurd k
-        by_update answer (Balance place balance) o k = absurd k
-        by_update answer (Listing l) o k = absurd (miss (0 ∷ 1 ∷ 3 ∷ 4 ∷ []) 2 tt o)
-        by_update answer (Left p) o k = (k.1, k.2, k.3)
-        by_update answer (Whole p) o k = absurd k
-
-    module _ {accounts : List Account} {area : List ℕ} where
-      pub trades_then : ArrivalReady accounts a buys sells area → Trades accounts a buys' sells' area
-      trades_then ready = rw (untouched_then.1, untouched_then.2) (record { ready = ready; matched = untouched_then.0 })
-
-      pub traded_then : {r : Carried} (buys'' sells'' : List ℕ) {area' : List ℕ} → ArrivedIs accounts a buys' sells' area r buys'' sells'' area' → ArrivedIs accounts a buys sells area r buys'' sells'' area'
-      traded_then buys'' sells'' h = rw (untouched_then.1, untouched_then.2) at h
 
 -- ---- what is decided of a command that comes down to an order
 

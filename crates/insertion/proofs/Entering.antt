@@ -10,7 +10,7 @@ use lib.ListN.{length, get_or}
 use Rattle.laws.specs.Choice.{ap_pick, pick, pick_false, for_either}
 use Rattle.rules.specs.Answers.{insert_refusals, listing_of, order_refusals, taker_of, trades_needed, trades_refused, taker_for}
 use Rattle.rules.specs.Bounds.{in_auction, max_resting, max_trades, max_contracts, numbers_end}
-use Rattle.rules.specs.Exchange.{Exchange, Listing, opposite, own, place_of, with_queues}
+use Rattle.rules.specs.Exchange.{Exchange, Listing, own, place_of, with_queues}
 use Rattle.rules.specs.Kinds.{code_of, decide, kind_of}
 use Rattle.rules.specs.Matching.{Entered, enter, sweep}
 use Rattle.rules.specs.Memory.{AfterCommand, Memory, WellFormedState, exchange_of, memory, put, put_queue, queue_in, step_in}
@@ -20,7 +20,6 @@ use Rattle.rules.specs.declared.Contract.{Contract}
 use Rattle.rules.specs.declared.NewOrder.{NewOrder}
 use Rattle.rules.specs.declared.Order.{Order}
 use Rattle.rules.specs.declared.State.{State}
-use Rattle.rules.specs.declared.Taker.{Taker}
 use Rattle.theory.proofs.AuctionSteps.{trades_needed_lem as trades-entered}
 use Rattle.theory.proofs.Terms.{terms}
 use Rattle.theory.proofs.Refusals.{failed}
@@ -33,15 +32,14 @@ use Rattle.invariants.proofs.Marks.{Marks, no_mark}
 use Rattle.invariants.proofs.MemoryKeeps.{sound}
 use Rattle.invariants.proofs.Traded.{traded_counted}
 use Rattle.engine.specs.Sides.{side_area, side_count}
-use Rattle.refusals.specs.Insertion.{Present, QueueRoom}
+use Rattle.refusals.specs.Insertion.{Present}
 use Rattle.insertion.specs.Entry.{Enterable, Known, arrival_of, entered_in}
 use Rattle.engine.specs.Arrival.{ArrivalReady, Arrived, ArrivedIs, entered_for, orders_on}
-use Rattle.engine.specs.Decision.{listed_in, outcome_of, with_carried}
+use Rattle.engine.specs.Decision.{outcome_of, with_carried}
 use Rattle.engine.specs.Outcome.{OutcomeIs}
 use Rattle.engine.specs.declared.answers.Outcome.{Outcome}
 use Rattle.engine.specs.declared.updates.Arrival.{Arrival}
 use Rattle.engine.specs.declared.updates.Carried.{Carried}
-use Rattle.engine.specs.declared.updates.Listed.{Listed}
 use Rattle.engine.proofs.Formed.{Formed, contracts_count, formed, no_account_lem, no_contract_lem}
 use Rattle.engine.proofs.Puts.{trades_count}
 use Rattle.engine.proofs.Traded.{few_after, put_traded}
@@ -66,25 +64,6 @@ module _ (buys sells bought sold : List ℕ) (c : ℕ) (mine others : List Order
       ≡ pick sell (put_queue (pick sell sells buys) c (get_or (pick sell sold bought) c 0) mine) (put_queue (pick (not sell) sells buys) c (get_or (pick (not sell) sold bought) c 0) others)
   put_sells true = refl
   put_sells false = refl
-
--- ---- the order as it arrives, made of what is read
-
-module _ (s : State) (buys sells : List ℕ) (o : NewOrder) {area : List ℕ} (ea : area ≡ side_area (not o.sell) buys sells)
-    {place : ℕ} (ep : place ≡ place_of o.contract) {l : Listed} (el : l ≡ listed_in s place) {count : ℕ} (ec : count ≡ pick o.sell l.bought l.sold) where
-  opposite_count : (sell : Bool) → pick sell (get_or s.buycounts (place_of o.contract) 0) (get_or s.sellcounts (place_of o.contract) 0) ≡ side_count (not sell) s (place_of o.contract)
-  opposite_count true = refl
-  opposite_count false = refl
-
-  count_here : count ≡ side_count (not o.sell) s (place_of o.contract)
-  count_here = ec ∙ rw (el, ep) (opposite_count o.sell)
-
-  pub arrival_room : Known s buys sells o → QueueRoom area (place_of o.contract) count
-  arrival_room k = rw (ea, count_here) k.opposite
-
-  pub arrival_made : (number quote next : ℕ) {t : Taker} → t ≡ taker_for number quote l.nextstamp l.terms (queue_in area (place_of o.contract) count) o
-      → record { order = o; taker = t; listed = record { place = l.place; terms = l.terms; bought = l.bought; sold = l.sold; recorded = l.recorded; next = next; nextstamp = l.nextstamp + 1 } }
-      ≡ arrival_of s buys sells o number quote next
-  arrival_made number quote next et = rw (et, ea, count_here, el, ep)
 
 module _ {s : State} {buys sells trades : List ℕ} (w : WellFormedState s buys sells trades) (o : NewOrder) (number quote next : ℕ)
     (g : Enterable s buys sells trades o number quote next) where
@@ -182,7 +161,7 @@ module _ {s : State} {buys sells trades : List ℕ} (w : WellFormedState s buys 
         contract = omega (arith, here.contract, f.contracts_high);
         method = method_has_tick (terms_in) (terms (terms_in) (contract_terms m f c here.contract)).tick_low;
         size = g.lots;
-        queue = (side_room m f c here.contract (not o.sell)).room;
+        queue = side_room m f c here.contract (not o.sell);
         room = omega (arith, trades_fit, trades_count m f, trades_needed_lem e, f.trades_room);
         parties =
             record {
@@ -213,7 +192,7 @@ module _ {s : State} {buys sells trades : List ℕ} (w : WellFormedState s buys 
             (record {
               place = refl;
               fits = known.contract;
-              queue = (side_room m f c here.contract (not o.sell)).room;
+              queue = side_room m f c here.contract (not o.sell);
               rests = omega (arith, own_few, side_long m f c here.contract o.sell);
             });
         sweeps = rw (count_is (not o.sell)) sweeps;

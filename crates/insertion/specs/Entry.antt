@@ -6,7 +6,7 @@ use Rattle.rules.specs.Bounds.{in_auction, max_contracts, max_lots, max_resting,
 use Rattle.rules.specs.Exchange.{no_contract, own, place_of}
 use Rattle.rules.specs.Kinds.{done}
 use Rattle.rules.specs.Matching.{counterpart}
-use Rattle.rules.specs.Memory.{Memory, AfterCommand, exchange_of, in_memory, memory, queue_in}
+use Rattle.rules.specs.Memory.{Memory, AfterCommand, exchange_of, first_word, in_memory, memory, queue_in}
 use Rattle.rules.specs.Step.{entered_as, entered_of, exchange_after, listing_after}
 use Rattle.rules.specs.WellFormed.{well_formed_contents}
 use Rattle.rules.specs.declared.Account.{Account}
@@ -24,7 +24,7 @@ use Rattle.engine.specs.declared.updates.Decision.{Decision}
 use Rattle.engine.specs.declared.updates.Pending.TheVariants.{Trading}
 use Rattle.engine.specs.declared.updates.Update.{Update}
 use Rattle.engine.specs.declared.updates.Update.TheVariants.{Nothing, Balance, Listing, Left, Whole}
-use Rattle.refusals.specs.Insertion.{Present, QueueRoom}
+use Rattle.refusals.specs.Insertion.{Present}
 
 -- ---- an order on a whole state
 
@@ -49,7 +49,7 @@ pub record Known (s : State) (buys sells : List ℕ) (o : NewOrder) : Type 0 whe
   pub contract_low : 1 ≤ o.contract
   pub contract : place_of o.contract < max_contracts
   pub stamp : s.nextstamp < numbers_end
-  pub opposite : QueueRoom (side_area (not o.sell) buys sells) (place_of o.contract) (side_count (not o.sell) s (place_of o.contract))
+  pub opposite : first_word (place_of o.contract) (side_count (not o.sell) s (place_of o.contract)) ≤ length (side_area (not o.sell) buys sells)
 
 -- it arrives, with the number and the quote mark that it gets, the next number and one time stamp more
 abbrev pub arrival_of : State → List ℕ → List ℕ → NewOrder → ℕ → ℕ → ℕ → Arrival

@@ -8,27 +8,22 @@
 ghost use Rattle.std.specs.Prelude.{◌≡◌, ◌≤◌, length};
 ghost use Rattle.rules.specs.Memory.{first_word, memory, queue_in, WellFormedState};
 ghost use Rattle.rules.specs.declared.Command.TheVariants.{Insert};
-ghost use Rattle.laws.specs.Choice.{pick};
 ghost use Rattle.engine.specs.Arrival.{Arriving, Arrives, ArrivedIs, ArrivalReady, Trades, entered_on};
-ghost use Rattle.engine.specs.Decision.{DecisionIs, HeldBy};
+ghost use Rattle.engine.specs.Decision.{DecisionIs, HeldBy, decided};
 ghost use Rattle.insertion.specs.Entry.{ArriveIs, ArriveOn, Known, TradedOn, TradesOn, arrival_of, rested_alone, rests_alone};
 
+use book::orders::Queue;
+use engine::market::Market;
 use engine::updates;
 use engine::updates::{Arrival, Carried, Decision, Listed, Pending, Update};
 use matching::entry;
 use refusals::{codes, orders};
+use rules::codes::Code;
 use rules::{AUCTION, Account, Answer, NewOrder, State};
-
-// One of two counts, by the order's side.
-fn by_side(sell: bool, selling: usize, buying: usize) -> usize
-    ensures { result ≡ pick sell selling buying }
-{
-    if sell { selling } else { buying }
-}
 
 // An order about to enter, after which `next` is the next number; one time stamp more is used.
 pub fn arrival_of<'a>(
-    state: State,
+    state: &State,
     buys: &'a [u32],
     sells: &'a [u32],
     o: NewOrder,
@@ -36,14 +31,14 @@ pub fn arrival_of<'a>(
     quote: u32,
     next: u32,
 ) -> Arrival
-    requires { Known state buys.now sells.now o }
-    ensures { result ≡ arrival_of state buys.now sells.now o number quote next }
+    requires { Known state.now buys.now sells.now o }
+    ensures { result ≡ arrival_of state.now buys.now sells.now o number quote next }
 {
     let mut listed = updates::listed_at(state, laws::place_of(o.contract));
     let terms = listed.terms;
-    let area = orders::side_area(!o.sell, buys, sells);
-    let count = by_side(o.sell, listed.bought, listed.sold);
-    let taker = orders::taker_of(number, quote, listed.nextstamp, terms, area, count, o);
+    let count = orders::by_side(o.sell, listed.bought, listed.sold);
+    let queue = Queue::new(orders::side_area(!o.sell, buys, sells), listed.place, count);
+    let taker = orders::taker_of(number, quote, listed.nextstamp, terms, &queue, o);
     listed.next = next;
     listed.nextstamp = listed.nextstamp + 1;
     Arrival {
@@ -68,45 +63,34 @@ fn entered_on(
     let mut terms = listed.terms;
     terms.last = last;
     next.terms = terms;
-    next.bought = by_side(sell, opposite, own);
-    next.sold = by_side(sell, own, opposite);
+    next.bought = orders::by_side(sell, opposite, own);
+    next.sold = orders::by_side(sell, own, opposite);
     next.recorded = made;
     next
 }
 
 // Whether an order makes no trade: in auction, whatever it crosses; elsewhere where the first order opposite is no counterpart.
-fn rests_alone(a: Arrival, opposite: &[u32], count: usize) -> bool
-    requires { first_word a.listed.place count ≤ length opposite.now }
-    ensures { result ≡ rests_alone a (queue_in opposite.now a.listed.place count) }
+fn rests_alone(a: Arrival, opposite: &Queue<'_>) -> bool
+    ensures { result ≡ rests_alone a opposite.now }
 {
-    let listed = a.listed;
-    let terms = listed.terms;
-    if terms.phase == AUCTION {
+    if a.listed.terms.phase == AUCTION {
         return true;
     }
-    if count == 0 {
-        return true;
+    match opposite.best() {
+        Some(first) => !prices::is_counterpart(a.taker, first),
+        None => true,
     }
-    let first = book::queue::order_at(opposite, listed.place, 0);
-    let taker = a.taker;
-    !prices::is_counterpart(taker, first)
 }
 
 // The lots that rest of such an order: in auction all; elsewhere "A good-for-day remainder rests .. Other remainders vanish."
 fn rested_alone(a: Arrival) -> u32
     ensures { result ≡ rested_alone a }
 {
-    let listed = a.listed;
-    let terms = listed.terms;
-    let o = a.order;
-    if terms.phase == AUCTION {
-        return o.lots;
+    if a.listed.terms.phase == AUCTION || orders::is_day(a.order.time) {
+        a.order.lots
+    } else {
+        0
     }
-    let time = o.time;
-    if orders::is_day(time) {
-        return o.lots;
-    }
-    0
 }
 
 fn arrive_on(
@@ -119,15 +103,13 @@ fn arrive_on(
     requires { Arriving a own.old owncount opposite.now oppositecount }
     ensures { ArriveOn a own.old owncount opposite.now oppositecount result own.new }
 {
-    if !rests_alone(a, opposite, oppositecount) {
+    let facing = Queue::new(opposite, a.listed.place, oppositecount);
+    if !rests_alone(a, &facing) {
         return updates::left(Update::Left(Pending::Trading(a)));
     }
     let listed = a.listed;
-    let terms = listed.terms;
     let taker = a.taker;
-    let o = a.order;
-    let condition = o.condition;
-    let price = orders::limit_of(condition);
+    let price = orders::limit_of(a.order.condition);
     let rested = rested_alone(a);
     let resting = entry::rest(own, listed.place, owncount, taker, price, rested);
     let after = entered_on(
@@ -136,7 +118,7 @@ fn arrive_on(
         resting,
         oppositecount,
         listed.recorded,
-        terms.last,
+        listed.terms.last,
     );
     updates::accepted(Update::Listing(after), taker.number, rested)
 }
@@ -146,12 +128,11 @@ pub fn arrive(a: Arrival, buys: &mut [u32], sells: &mut [u32]) -> Decision
     requires { Arrives a buys.old sells.old }
     ensures { ArriveIs a buys.old sells.old result buys.new sells.new }
 {
-    let listed = a.listed;
-    let taker = a.taker;
-    if taker.sell {
-        return arrive_on(a, sells, listed.sold, &buys[..], listed.bought);
+    if a.taker.sell {
+        arrive_on(a, sells, a.listed.sold, &buys[..], a.listed.bought)
+    } else {
+        arrive_on(a, buys, a.listed.bought, &sells[..], a.listed.sold)
     }
-    arrive_on(a, buys, listed.bought, &sells[..], listed.sold)
 }
 
 fn trade_on(
@@ -166,14 +147,10 @@ fn trade_on(
     requires { TradesOn accounts a own.old owncount opposite.old oppositecount trades.old }
     ensures { TradedOn accounts a own.old owncount opposite.old oppositecount trades.old result own.new opposite.new trades.new }
 {
-    let o = a.order;
     let listed = a.listed;
-    let terms = listed.terms;
     let taker = a.taker;
-    let condition = o.condition;
-    let price = orders::limit_of(condition);
-    let time = o.time;
-    let day = orders::is_day(time);
+    let price = orders::limit_of(a.order.condition);
+    let day = orders::is_day(a.order.time);
     let e = entry::enter(
         own,
         owncount,
@@ -182,10 +159,10 @@ fn trade_on(
         trades,
         listed.recorded,
         taker,
-        o.lots,
+        a.order.lots,
         price,
         day,
-        terms.last,
+        listed.terms.last,
         accounts,
     );
     let held = e.accounts;
@@ -213,11 +190,11 @@ pub fn trade(
     ensures { ArrivedIs accounts a buys.old sells.old trades.old result buys.new sells.new trades.new }
 {
     let listed = a.listed;
-    let taker = a.taker;
-    if taker.sell {
-        return trade_on(accounts, a, sells, listed.sold, buys, listed.bought, trades);
+    if a.taker.sell {
+        trade_on(accounts, a, sells, listed.sold, buys, listed.bought, trades)
+    } else {
+        trade_on(accounts, a, buys, listed.bought, sells, listed.sold, trades)
     }
-    trade_on(accounts, a, buys, listed.bought, sells, listed.sold, trades)
 }
 
 // The order enters with all accounts: it rests, or it trades.
@@ -234,13 +211,11 @@ pub fn enter(
     // before the areas are written: else the compiler keeps a copy of all accounts
     let kept = accounts;
     let decision = arrive(a, buys, sells);
-    let update = decision.update;
-    let answer = decision.answer;
-    match update {
+    match decision.update {
         Update::Listing(listed) => Carried {
             accounts: kept,
             listed,
-            answer,
+            answer: decision.answer,
         },
         _ => trade(accounts, a, buys, sells, trades),
     }
@@ -248,21 +223,24 @@ pub fn enter(
 
 // "given to accepted orders in turn over all contracts": an accepted insert enters with the next number. `who` is its account.
 pub fn insert(
-    state: State,
+    state: &State,
     who: Account,
     buys: &mut [u32],
     sells: &mut [u32],
     trades: &[u32],
     o: NewOrder,
-) -> Decision
-    requires { WellFormedState state buys.old sells.old trades.now × HeldBy state o.account who }
-    ensures { DecisionIs (memory state buys.old sells.old trades.now) (Insert o) result buys.new sells.new trades.now }
+) -> Result<Decision, Code>
+    requires { WellFormedState state.now buys.old sells.old trades.now × HeldBy state.now o.account who }
+    ensures { DecisionIs (memory state.now buys.old sells.old trades.now) (Insert o) (decided result) buys.new sells.new trades.now }
 {
-    let code = codes::code_of(state, who, &buys[..], &sells[..], trades, o);
-    if code != 0 {
-        return updates::refused(code);
-    }
+    let market = Market {
+        state,
+        buys: &buys[..],
+        sells: &sells[..],
+        trades,
+    };
+    codes::code_of(&market, who, o)?;
     let number = state.next;
     let a = arrival_of(state, &buys[..], &sells[..], o, number, 0, number + 1);
-    arrive(a, buys, sells)
+    Ok(arrive(a, buys, sells))
 }

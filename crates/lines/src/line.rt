@@ -6,6 +6,7 @@ ghost use Rattle.lines.specs.Tables.{price_line, account_line, field_most, signe
 
 use super::number::{DIGITS_MOST, put_decimal, put_signed};
 use endian::writing::put_byte;
+use rules::codes::Code;
 use rules::{Answer, Trade};
 
 // How many bytes a field may have, a space and twenty digits, and one with a sign.
@@ -24,6 +25,7 @@ pub const ACCOUNT_LINE_MOST: usize = 1 + 2 * FIELD_MOST + 3 * SIGNED_FIELD_MOST 
 
 pub const BROKEN_LINE_MOST: usize = 1 + FIELD_MOST + 1;
 
+// Two functions for a field, since each writes by a definition of its own: `decimal` and `signed`.
 pub fn put_field(out: &mut [u8], at: usize, n: u64) -> usize
     requires { at + field_most ≤ length out.old }
     ensures { Written field_most out.old at (space ∷ decimal n) out.new result }
@@ -64,10 +66,10 @@ pub fn put_answer(out: &mut [u8], at: usize, k: u64, a: Answer) -> usize
     ensures { Written answer_line_most out.old at (answer_line k a) out.new result }
 {
     let command = put_first(out, at, b'C', k);
-    let code = put_field(out, command, a.code as u64);
-    let order = put_field(out, code, a.number as u64);
-    let traded = put_field(out, order, a.traded as u64);
-    put_last(out, traded, a.lots as u64)
+    let code = put_field(out, command, u64::from(a.code));
+    let order = put_field(out, code, u64::from(a.number));
+    let traded = put_field(out, order, u64::from(a.traded));
+    put_last(out, traded, u64::from(a.lots))
 }
 
 // "T: trade of the day, contract, price, lots, buy order, sell order."
@@ -76,11 +78,11 @@ pub fn put_trade(out: &mut [u8], at: usize, k: u64, t: Trade) -> usize
     ensures { Written trade_line_most out.old at (trade_line k t) out.new result }
 {
     let trade = put_first(out, at, b'T', k);
-    let contract = put_field(out, trade, t.contract as u64 + 1);
-    let price = put_field(out, contract, t.price as u64);
-    let lots = put_field(out, price, t.lots as u64);
-    let buyer = put_field(out, lots, t.buyorder as u64);
-    put_last(out, buyer, t.sellorder as u64)
+    let contract = put_field(out, trade, u64::from(t.contract) + 1);
+    let price = put_field(out, contract, u64::from(t.price));
+    let lots = put_field(out, price, u64::from(t.lots));
+    let buyer = put_field(out, lots, u64::from(t.buyorder));
+    put_last(out, buyer, u64::from(t.sellorder))
 }
 
 // "P: contract, settlement price." c is the contract's place.
@@ -88,8 +90,8 @@ pub fn put_price(out: &mut [u8], at: usize, c: u32, price: u32) -> usize
     requires { at + price_line_most ≤ length out.old }
     ensures { Written price_line_most out.old at (price_line c price) out.new result }
 {
-    let contract = put_first(out, at, b'P', c as u64 + 1);
-    put_last(out, contract, price as u64)
+    let contract = put_first(out, at, b'P', u64::from(c) + 1);
+    put_last(out, contract, u64::from(price))
 }
 
 // "B: account, closing and holding profit, balance, charged margin." a is the account's place.
@@ -105,7 +107,7 @@ pub fn put_account(
     requires { at + account_line_most ≤ length out.old }
     ensures { Written account_line_most out.old at (account_line a closing holding balance charged) out.new result }
 {
-    let account = put_first(out, at, b'B', a as u64 + 1);
+    let account = put_first(out, at, b'B', u64::from(a) + 1);
     let closed = put_signed_field(out, account, closing);
     let held = put_signed_field(out, closed, holding);
     let owned = put_signed_field(out, held, balance);
@@ -118,5 +120,5 @@ pub fn put_broken(out: &mut [u8], at: usize) -> usize
     ensures { Written broken_line_most out.old at broken_line out.new result }
 {
     let letter = put_byte(out, at, b'X');
-    put_last(out, letter, 20)
+    put_last(out, letter, u64::from(Code::FileBroken.number()))
 }

@@ -15,16 +15,17 @@ fn put_digits(out: &mut [u8], at: usize, places: usize, n: u64) -> usize
         return at;
     }
     if n < 10 {
-        return put_byte(out, at, 48 + n as u8);
+        return put_byte(out, at, b'0' + n as u8);
     }
     let next = put_digits(out, at, places - 1, n / 10);
     let last = n % 10;
-    put_byte(out, next, 48 + last as u8)
+    put_byte(out, next, b'0' + last as u8)
 }
 
 // Twenty digits hold every u64.
 pub const DIGITS_MOST: usize = 20;
 
+#[tactic(auto, unfolding(rules::specs::Lines::decimal))]
 pub fn put_decimal(out: &mut [u8], at: usize, n: u64) -> usize
     requires { at + digits_most ≤ length out.old }
     ensures { Written digits_most out.old at (decimal n) out.new result }

@@ -7,9 +7,10 @@ use Rattle.laws.specs.Numbers.{ℕ, zero, suc, ◌+◌, ◌*◌, ◌<◌, ◌≤
 use Rattle.rules.specs.Exchange.{no_account, no_contract, no_holding, resting_opens}
 use Rattle.rules.specs.Margin.{charge_of, charge, charged_lots, charged_to, charged}
 use Rattle.rules.specs.Memory.{Memory, exchange_of, listing_in, queue_in, memory}
-use Rattle.rules.specs.declared.{Contract.Contract, Holding.Holding, State.State}
+use Rattle.rules.specs.declared.{Contract.Contract, Holding.Holding, Order.Order, State.State}
+use Rattle.theory.proofs.Codecs.{length_queue}
 use Rattle.theory.proofs.InUse.{contracts_in_use, listing_in_use, holding_in_use}
-use Rattle.margin.specs.Charge.{listing_from, ChargeTerms, ChargeableIn, Chargeable, Has, ChargedIs, ChargedAt}
+use Rattle.margin.specs.Charge.{listing_from, listing_with, ChargeTerms, ChargeableIn, ChargeableWith, Chargeable, Has, ChargedIs, ChargedAt}
 
 -- ---- one contract
 
@@ -24,26 +25,30 @@ pub charge_small : (c : Contract) → ChargeTerms c → charge c ≤ 1_000_000_0
 unfolding charge_of
 charge_small c t = omega (arith, rated_small c t)
 
-module _ (k : Contract) (buys : List ℕ) (buycount : ℕ) (sells : List ℕ) (sellcount c a : ℕ) (h : Holding)
-    (g : ChargeableIn k buys buycount sells sellcount c a h) where
-  lots_small : charged_lots (listing_from k buys buycount sells sellcount c) a h ≤ 200_000
+module _ (k : Contract) (buys sells : List Order) (a : ℕ) (h : Holding) (g : ChargeableWith k buys sells a h) where
+  lots_small : charged_lots (listing_with k buys sells) a h ≤ 200_000
   unfolding charged_lots
   lots_small = omega (arith, g.long, g.short)
 
-  charged_small : charge k * charged_lots (listing_from k buys buycount sells sellcount c) a h ≤ 200_000_000_000_000
+  charged_small : charge k * charged_lots (listing_with k buys sells) a h ≤ 200_000_000_000_000
   charged_small =
-      le_trans (mul-le-mul_right (charged_lots (listing_from k buys buycount sells sellcount c) a h) (charge_small k g.terms))
+      le_trans (mul-le-mul_right (charged_lots (listing_with k buys sells) a h) (charge_small k g.terms))
       (mul-le-mul_left 1_000_000_000 lots_small)
 
   -- as the code adds it up
-  module _ (r bids offers lots : ℕ) (er : r ≡ charge k) (eb : bids ≡ resting_opens a (queue_in buys c buycount))
-      (eo : offers ≡ resting_opens a (queue_in sells c sellcount)) (el : lots ≡ max (h.long + bids) (h.short + offers)) where
-    pub charged_here_lem : r * lots ≡ charge k * charged_lots (listing_from k buys buycount sells sellcount c) a h
+  module _ (r bids offers lots : ℕ) (er : r ≡ charge k) (eb : bids ≡ resting_opens a buys)
+      (eo : offers ≡ resting_opens a sells) (el : lots ≡ max (h.long + bids) (h.short + offers)) where
+    pub charged_here_lem : r * lots ≡ charge k * charged_lots (listing_with k buys sells) a h
     unfolding charged_lots
     charged_here_lem = rw (el, er, eb, eo)
 
     pub charged_here_small : r * lots ≤ 200_000_000_000_000
     charged_here_small = le_trans (le_of_eq charged_here_lem) charged_small
+
+pub charged_in_areas : (k : Contract) (buys : List ℕ) (buycount : ℕ) (sells : List ℕ) (sellcount c a : ℕ) (h : Holding)
+    → ChargeableIn k buys buycount sells sellcount c a h → ChargeableWith k (queue_in buys c buycount) (queue_in sells c sellcount) a h
+charged_in_areas k buys buycount sells sellcount c a h g =
+    record { terms = g.terms; bids = omega (arith, length_queue buys c buycount, g.bids); offers = omega (arith, length_queue sells c sellcount, g.offers); long = g.long; short = g.short }
 
 -- ---- the first contracts
 
@@ -108,7 +113,7 @@ module _ (holdings : List Holding) (terms : List Contract) (contracts : ℕ) (bu
   module _ (c total v : ℕ) (lc : c < contracts) (w : Charging holdings terms buys buycounts sells sellcounts a contracts total c)
       (e : v ≡ charged_here holdings terms buys buycounts sells sellcounts a c) where
     pub turn_small : v ≤ 200_000_000_000_000
-    turn_small = le_trans (le_of_eq e) (charged_small _ _ _ _ _ _ _ _ (g.each c lc))
+    turn_small = le_trans (le_of_eq e) (charged_small _ _ _ _ _ (charged_in_areas _ _ _ _ _ _ _ _ (g.each c lc)))
 
     pub total_fits : Fits w64 (total + v)
     total_fits = Fits-below {n = 1_000_000_000_000_000} tt (omega (arith, turn_small, w.small, g.few))

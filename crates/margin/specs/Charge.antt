@@ -6,9 +6,14 @@ use Rattle.rules.specs.Margin as margin
 use Rattle.rules.specs.Memory.{exchange_of, memory, queue_in, first_word}
 use Rattle.rules.specs.declared.Contract.{Contract}
 use Rattle.rules.specs.declared.Holding.{Holding}
+use Rattle.rules.specs.declared.Order.{Order}
 use Rattle.rules.specs.declared.State.{State}
 
--- a contract with the first orders of its two queues
+-- a contract with its two queues
+abbrev pub listing_with : Contract → List Order → List Order → Listing
+listing_with contract buys sells = record { contract = contract; buys = buys; sells = sells }
+
+-- with the first orders of its two queues
 abbrev pub listing_from : Contract → List ℕ → ℕ → List ℕ → ℕ → ℕ → Listing
 listing_from contract buys buycount sells sellcount c =
     record { contract = contract; buys = queue_in buys c buycount; sells = queue_in sells c sellcount }
@@ -23,7 +28,15 @@ pub record ChargeTerms (c : Contract) : Type 0 where
 abbrev pub charged_most : ℕ
 charged_most = 2 * max_limit
 
--- a contract's queues in their areas, and an account's holding in it
+-- a contract, its two queues, and an account's holding in it
+pub record ChargeableWith (contract : Contract) (buys sells : List Order) (a : ℕ) (h : Holding) : Type 0 where
+  pub terms : ChargeTerms contract
+  pub bids : length buys ≤ max_resting
+  pub offers : length sells ≤ max_resting
+  pub long : h.long + resting_opens a buys ≤ charged_most
+  pub short : h.short + resting_opens a sells ≤ charged_most
+
+-- the same of queues in their areas
 pub record ChargeableIn (contract : Contract) (buys : List ℕ) (buycount : ℕ) (sells : List ℕ) (sellcount c a : ℕ) (h : Holding) : Type 0 where
   pub terms : ChargeTerms contract
   pub bids : buycount ≤ max_resting

@@ -5,9 +5,9 @@
 ghost use Rattle.std.specs.Prelude.{◌≡◌, ◌*◌, ◌≤◌, max, pos};
 ghost use Rattle.std.specs.Int.Signed.{lt_z};
 ghost use Rattle.rules.specs.Margin as margin;
-ghost use Rattle.margin.specs.Charge.{ChargeTerms, ChargeableIn, Chargeable, ChargedIs, listing_from, margin_most};
+ghost use Rattle.margin.specs.Charge.{ChargeTerms, ChargeableWith, Chargeable, ChargedIs, listing_with, margin_most};
 
-use book::scan;
+use book::orders::Queue;
 use rules::sizes::RATE_PARTS;
 use rules::{Contract, Holding};
 
@@ -16,37 +16,26 @@ pub fn charge(c: Contract) -> u64
     requires { ChargeTerms c }
     ensures { result ≡ margin.charge c }
 {
-    let multiplier = c.multiplier as u64;
-    let reference = c.reference as u64;
-    let rate = c.rate as u64;
-    (multiplier * reference * rate + (RATE_PARTS - 1)) / RATE_PARTS
-}
-
-fn larger_side(bought: u64, sold: u64) -> u64
-    ensures { result ≡ max bought sold }
-{
-    if bought < sold { sold } else { bought }
+    let whole = u64::from(c.multiplier) * u64::from(c.reference) * u64::from(c.rate);
+    whole.div_ceil(RATE_PARTS)
 }
 
 // The charge times the larger of (long plus resting buy opens) and (short plus resting sell opens), of one account in one contract.
-fn charged_in<'a>(
+fn charged_in(
     contract: Contract,
-    buys: &'a [u32],
-    buycount: usize,
-    sells: &'a [u32],
-    sellcount: usize,
-    c: usize,
+    buys: &Queue<'_>,
+    sells: &Queue<'_>,
     account: u32,
     h: Holding,
 ) -> u64
-    requires { ChargeableIn contract buys.now buycount sells.now sellcount c account h }
-    ensures { result ≡ margin.charge contract * margin.charged_lots (listing_from contract buys.now buycount sells.now sellcount c) account h }
+    requires { ChargeableWith contract buys.now sells.now account h }
+    ensures { result ≡ margin.charge contract * margin.charged_lots (listing_with contract buys.now sells.now) account h }
 {
-    let long = h.long as u64;
-    let short = h.short as u64;
-    let bids = scan::resting(buys, c, buycount, account, 0);
-    let offers = scan::resting(sells, c, sellcount, account, 0);
-    let lots = larger_side(long + bids, short + offers);
+    let long = u64::from(h.long);
+    let short = u64::from(h.short);
+    let bids = buys.resting(account, 0);
+    let offers = sells.resting(account, 0);
+    let lots = (long + bids).max(short + offers);
     charge(contract) * lots
 }
 
@@ -68,14 +57,10 @@ pub fn charged<'a>(
 {
     let account = a as u32;
     let mut total: u64 = 0;
-    let mut c: usize = 0;
-    while c < contracts {
-        let contract = terms[c];
-        let h = holdings[c];
-        let buycount = buycounts[c];
-        let sellcount = sellcounts[c];
-        total += charged_in(contract, buys, buycount, sells, sellcount, c, account, h);
-        c += 1;
+    for c in 0..contracts {
+        let bids = Queue::new(buys, c, buycounts[c]);
+        let offers = Queue::new(sells, c, sellcounts[c]);
+        total += charged_in(terms[c], &bids, &offers, account, holdings[c]);
     }
     total
 }

@@ -1,6 +1,6 @@
 -- The sweep's loop: what it ends with if from here on it goes by the rules, a turn that keeps this, and each way out of the
 -- loop. Assumes nothing.
-use Rattle.laws.specs.Logic.{Bool, true, false, List, [], ◌∷◌, ◌++◌, ◌≡◌, sym, ap, ◌∙◌}
+use Rattle.laws.specs.Logic.{Bool, true, false, List, [], ◌∷◌, ◌++◌, ◌≡◌, refl, sym, ap, ◌∙◌}
 use Rattle.laws.specs.Numbers.{ℕ, ◌+◌, ◌-◌, ◌*◌, ◌<◌, ◌≤◌, min, add-one, arith, length, get_or, set, take, drop, length-drop, take-append-drop, set_split}
 use Rattle.laws.specs.Choice.{pick}
 use Rattle.areas.specs.Records.{store}
@@ -84,6 +84,14 @@ pub record Meeting (t : Taker) (queues : List ℕ) (count at left price : ℕ) (
   pub some : 0 < left
   pub met : counterpart t o ≡ true
   pub trade : tr ≡ trade_with t o left price
+
+-- from the tests that code makes before it
+pub meeting : {t : Taker} {lots last : ℕ} {held₀ : List Account} {queues : List ℕ} {count : ℕ} {area₀ : List ℕ} {before : ℕ} {queues' area : List ℕ}
+    {held : List Account} {price made at done : ℕ} → Going t lots last held₀ queues count area₀ before queues' area held price made at done
+    → (at ≡ count → ⊥) → (lots - done ≡ 0 → ⊥) → {o : Order} {m : Bool} {tr : Trade} → o ≡ order_from (drop (first_word t.contract at) queues')
+    → m ≡ counterpart t o → m ≡ true → tr ≡ trade_with t o (lots - done) price → Meeting t queues count at (lots - done) price o tr
+meeting {at = at} g here some eo em met et =
+    record { here = omega (arith, g.within); order = order_read at eo refl g.same; some = omega arith; met = sym em ∙ met; trade = et }
 
 either_party : (used : ℕ) (sell : Bool) (a b : ℕ) → a < used → b < used → pick sell a b < used
 either_party used true a b ha hb = ha

@@ -70,7 +70,7 @@ pub fn enter(
     requires { EntryReady t lots price day last accounts own.old owncount opposite.old oppositecount area.old before }
     ensures { EntryIs (matching.enter t lots price day last (queue_in own.old t.contract owncount) (queue_in opposite.old t.contract oppositecount)) t.contract own.old owncount opposite.old oppositecount area.old before last accounts result own.new opposite.new area.new }
 {
-    let c = laws::wide(t.contract);
+    let c = t.contract as usize;
     let f = sweep::sweep(
         opposite,
         oppositecount,
@@ -81,8 +81,7 @@ pub fn enter(
         last,
         accounts,
     );
-    let filled = f.filled;
-    queue::drop_front(opposite, c, oppositecount, filled);
+    queue::drop_front(opposite, c, oppositecount, f.filled);
     let rested = remaining(day, lots, f.traded);
     let resting = rest(own, c, owncount, t, price, rested);
     let held = f.accounts;
@@ -90,7 +89,7 @@ pub fn enter(
         traded: f.traded,
         rested,
         own: resting,
-        opposite: oppositecount - filled,
+        opposite: oppositecount - f.filled,
         made: f.made,
         last: f.last,
         accounts: held,

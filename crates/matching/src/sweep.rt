@@ -32,12 +32,13 @@ pub fn sweep(
     requires { SweepReady t lots last accounts opposite.old count area.old before }
     ensures { FilledIs (matching.sweep t lots last (queue_in opposite.old t.contract count)) opposite.old t.contract count area.old before last accounts result opposite.new area.new }
 {
-    let c = laws::wide(t.contract);
+    let c = t.contract as usize;
     let mut held = accounts;
     let mut price = last;
     let mut made = before;
     let mut filled: usize = 0;
     let mut done: u32 = 0;
+    // document 01 has the sweep as a labelled loop, which yields the lots traded at its break
     let traded = 'sweep: loop {
         let left = lots - done;
         if filled == count || left == 0 {
@@ -49,17 +50,16 @@ pub fn sweep(
         }
         let trade = prices::trade_with(t, o, left, price);
         let size = trade.lots;
-        let buyer = laws::wide(trade.buyer);
+        let buyer = trade.buyer as usize;
         held[buyer] = holdings::book_leg(held[buyer], c, false, trade.buyclose, size);
-        let seller = laws::wide(trade.seller);
+        let seller = trade.seller as usize;
         held[seller] = holdings::book_leg(held[seller], c, true, trade.sellclose, size);
         trades::put_trade(area, made, trade);
         made += 1;
         price = trade.price;
         done += size;
-        let resting = o.lots;
-        if size < resting {
-            queue::set_lots(opposite, c, count, filled, resting - size);
+        if size < o.lots {
+            queue::set_lots(opposite, c, count, filled, o.lots - size);
             break 'sweep done;
         }
         filled += 1;

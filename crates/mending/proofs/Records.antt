@@ -8,6 +8,11 @@ use Rattle.endian.proofs.Writes.{then, looser, no_byte, length_part}
 use Rattle.rules.specs.Command.{command_of, is_malformed}
 use Rattle.rules.specs.DayFile.{record_from, command_width, max_commands}
 use Rattle.rules.specs.declared.{Command.Command, Record.Record}
+use Rattle.std.specs.Option.{is_some}
+use Rattle.std.specs.Prelude.{Option, Some, None}
+use Rattle.mending.specs.Reasons.{reason_number, reason_in}
+use Rattle.mending.specs.declared.reasons.Reason.{Reason}
+use Rattle.mending.specs.declared.reasons.Reason.TheVariants.{Malformed, Partial, Surplus}
 use Rattle.mending.specs.Mend.{reason, kept, kept_bytes, dropped, entry, entry_width}
 
 pub length_entry : (k why : ℕ) → length (entry k why) ≡ entry_width
@@ -32,6 +37,21 @@ module _ (file : List ℕ) (first k n : ℕ) {r : Record} {command : Command} {t
   pub no_reason : t ≡ false → n < max_commands → 0 ≡ reason file first k n
   unfolding reason
   no_reason e h = rw (test_is, e, lt-leb max_commands n h)
+
+-- a reason that is told is one
+pub some_number : (why : Reason) → reason_number why ≡ 0 → ⊥
+some_number Malformed e = cc
+some_number Partial e = cc
+some_number Surplus e = cc
+
+-- what is told of a record, from the test that there is no reason
+pub told_none : (r : Option Reason) → is_some r ≡ false → reason_in r ≡ 0
+told_none None e = refl
+told_none (Some why) e = cc
+
+pub told_some : (r : Option Reason) → is_some r ≡ true → reason_in r ≡ 0 → ⊥
+told_some None e = cc
+told_some (Some why) e = some_number why
 
 -- ---- how many are kept
 

@@ -72,13 +72,6 @@ module _ (file : List ℕ) (first : ℕ) where
         length_last (partial_record file first),
       )
 
-pub dropped_most : (file : List ℕ) (first : ℕ) → dropped_count file first ≤ whole_records file first + 1
-dropped_most file first = by_partial (partial_record file first)
-  where
-    by_partial : (t : Bool) → whole_records file first - kept file first (whole_records file first) + pick t 1 0 ≤ whole_records file first + 1
-    by_partial true = omega arith
-    by_partial false = omega arith
-
 pub place_most : (file : List ℕ) → head_sound file ≡ true → command_place file 0 ≤ 3 * count_width + contract_width * max_contracts + account_width * max_accounts
 place_most file sound = omega (arith, (sound_head file sound).contracts, (sound_head file sound).accounts, command_place_lem file 0)
 
@@ -96,6 +89,15 @@ pub record Found (file : List ℕ) (first n m : ℕ) : Type 0 where
   pub place : first ≡ command_place file 0
   pub records : n ≡ whole_records file first
   pub keeps : m ≡ kept file first n
+
+-- what a head tells of the file whose bytes it has
+pub of_head : {bytes file : List ℕ} {first : ℕ} → bytes ≡ file → head_sound bytes ≡ true → first ≡ command_place bytes 0
+    → (head_sound file ≡ true) × (first ≡ command_place file 0)
+of_head e sound place = (rw (← e) sound, rw (← e) place)
+
+pub found : {file : List ℕ} {first n m : ℕ} → (head_sound file ≡ true) × (first ≡ command_place file 0) → (n ≡ whole_records file first) × (m ≡ kept file first n)
+    → Found file first n m
+found h k = record { sound = h.0; place = h.1; records = k.0; keeps = k.1 }
 
 module _ {file : List ℕ} {first n m : ℕ} (f : Found file first n m) where
   pub first_within : (3 * count_width ≤ first) × (first ≤ length file)
@@ -141,6 +143,9 @@ pub record Listed (file : List ℕ) (first n d : ℕ) : Type 0 where
   pub records : n ≡ whole_records file first
   pub drops : d ≡ dropped_count file first
 
+pub told : {file : List ℕ} {first n d : ℕ} → (first ≤ length file) × (n ≡ whole_records file first) × (d ≡ dropped_count file first) → Listed file first n d
+told h = record { within = h.0; records = h.1; drops = h.2 }
+
 module _ {file : List ℕ} {first n d : ℕ} (l : Listed file first n d) where
   pub listed_within : first + command_width * n ≤ length file
   listed_within = omega (arith, l.records, whole_within file first l.within)
@@ -153,9 +158,6 @@ module _ {file : List ℕ} {first n d : ℕ} (l : Listed file first n d) where
 
   pub number_fits : {room : ℕ} → length (list_from file first) ≤ room → list_count_width ≤ room
   number_fits h = omega (arith, list_is)
-
-  pub listed_most : list_count_width + entry_width * d ≤ length file + (list_count_width + entry_width)
-  listed_most = omega (arith, l.drops, l.records, dropped_most file first, listed_within)
 
   whole_dropped : entry_width * (n - kept file first n) ≤ entry_width * d
   whole_dropped = rw (l.records, l.drops) (omega arith)

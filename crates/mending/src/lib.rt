@@ -2,4 +2,5 @@
 #![tactic(auto)]
 
 pub mod mend;
+pub mod reasons;
 pub mod verdict;

@@ -14,7 +14,7 @@ use Rattle.rules.specs.Auction.{Matched, auction_match, match_of, unmatched}
 use Rattle.rules.specs.Bounds.{in_auction, max_lots, max_trades, auction, continuous}
 use Rattle.rules.specs.Exchange.{Exchange, Listing, account_at, holding_at, listing_at, no_contract, own, place_of, is_absent}
 use Rattle.rules.specs.Kinds.{code_of, done, kind_of}
-use Rattle.rules.specs.Memory.{Memory, WellFormedState, exchange_of, listing_in, memory, queue_in, step_in, written}
+use Rattle.rules.specs.Memory.{Memory, WellFormedState, exchange_of, listing_in, memory, queue_in, written}
 use Rattle.rules.specs.Step.{answer_of, exchange_matched, listing_matched, phase_changed, with_trades}
 use Rattle.rules.specs.WellFormed.{order_in_range}
 use Rattle.rules.specs.declared.Command.TheVariants.{Phase}
@@ -23,8 +23,8 @@ use Rattle.rules.specs.declared.Order.{Order}
 use Rattle.rules.specs.declared.State.{State}
 use Rattle.theory.proofs.AuctionOutcome.{auction_count}
 use Rattle.theory.proofs.Codecs.{length_queue}
-use Rattle.auction.specs.Matched.{MatchReady, MatchedIs, fits, level_match}
-use Rattle.auction.specs.Price.{QueuesRoom, chosen_level}
+use Rattle.auction.specs.Matched.{MatchReady, MatchedIs, QueuesRoom, fits, level_match}
+use Rattle.auction.specs.Price.{FewOrders, chosen_level}
 use Rattle.auction.specs.declared.matched.Match.{Match}
 use Rattle.auction.specs.declared.price.Level.{Level}
 use Rattle.auction.proofs.Chosen.{level_auction}
@@ -129,14 +129,21 @@ module _ {s : State} {buys sells trades : List ℕ} (w : WellFormedState s buys 
 
   -- ---- the match at the level that the code has found
 
-  module _ {place : ℕ} (is : place ≡ c) {level : Level}
-      (el : level ≡ chosen_level (get_or s.contracts place no_contract).last (queue_in buys place (get_or s.buycounts place 0)) (queue_in sells place (get_or s.sellcounts place 0))) where
-    level_is : level_match c level bids asks ≡ matched
-    level_is = level_auction c terms.last bids asks (rw is at el)
+  module _ {place : ℕ} (is : place ≡ c) {buying selling : List Order} (eb : buying ≡ queue_in buys place (get_or s.buycounts place 0)) (es : selling ≡ queue_in sells place (get_or s.sellcounts place 0)) where
+    pub few : FewOrders buying selling
+    few = record {
+      few_buys = omega (arith, ap length eb, length_queue buys place (get_or s.buycounts place 0), (queues is).few_buys);
+      few_sells = omega (arith, ap length es, length_queue sells place (get_or s.sellcounts place 0), (queues is).few_sells);
+    }
 
-    module _ {needed : ℕ} (en : needed ≡ length (level_match place level (queue_in buys place (get_or s.buycounts place 0)) (queue_in sells place (get_or s.sellcounts place 0))).trades) where
+  module _ {place : ℕ} (is : place ≡ c) {buying selling : List Order} (eb : buying ≡ queue_in buys place (get_or s.buycounts place 0)) (es : selling ≡ queue_in sells place (get_or s.sellcounts place 0))
+      {level : Level} (el : level ≡ chosen_level (get_or s.contracts place no_contract).last buying selling) where
+    level_is : level_match c level bids asks ≡ matched
+    level_is = level_auction c terms.last bids asks (rw (eb, es, is) at el)
+
+    module _ {needed : ℕ} (en : (n : ℕ) → needed ≡ length (level_match n level buying selling).trades) where
       needed_is : needed ≡ length matched.trades
-      needed_is = (rw is at en) ∙ ap (λ (r : Matched). length r.trades) level_is
+      needed_is = (rw (eb, es, is) at (en c)) ∙ ap (λ (r : Matched). length r.trades) level_is
 
       -- no more than orders
       pub needed_few : s.tradecount + needed ≤ 1_152

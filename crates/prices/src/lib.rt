@@ -7,7 +7,8 @@ ghost use Rattle.prices.specs.Methods.{HasTick};
 
 use rules::{Order, PairingMethod, PriceCondition, Taker, Trade};
 
-// One test for each ordering of the three prices, lowest first; of equal prices any order gives the same middle.
+// One test for each ordering of the three prices, lowest first; of equal prices any order gives the same middle. The comparisons stay
+// plain (document 02, ticket 5).
 pub fn middle(a: u32, b: u32, c: u32) -> u32
     ensures { result ≡ matching.middle a b c }
 {
@@ -30,6 +31,7 @@ pub fn middle(a: u32, b: u32, c: u32) -> u32
 }
 
 // A match on the price condition picks the counterparts.
+#[tactic(auto, unfolding(rules::specs::Matching::meets))]
 pub fn meets(condition: PriceCondition, sell: bool, best: u32, price: u32) -> bool
     ensures { result ≡ matching.meets condition sell best price }
 {
@@ -43,22 +45,23 @@ pub fn meets(condition: PriceCondition, sell: bool, best: u32, price: u32) -> bo
 pub fn is_counterpart(t: Taker, o: Order) -> bool
     ensures { result ≡ matching.counterpart t o }
 {
-    let condition = t.condition;
-    meets(condition, t.sell, t.best, o.price)
+    meets(t.condition, t.sell, t.best, o.price)
 }
 
 // "half the sum of both prices, rounded down to a tick". Requires a tick.
+#[tactic(auto, unfolding(rules::specs::Matching::average))]
 fn average(tick: u32, a: u32, b: u32) -> u32
     requires { 1 ≤ tick }
     ensures { result ≡ matching.average tick a b }
 {
-    let step = tick as u64;
-    let half = (a as u64 + b as u64) / 2;
+    let step = u64::from(tick);
+    let half = (u64::from(a) + u64::from(b)) / 2;
     (half / step * step) as u32
 }
 
 // The price of a limit order's trade with a resting order, by the contract's pairing method. Requires a tick where the method
 // rounds to one.
+#[tactic(auto, unfolding(rules::specs::Matching::paired_price))]
 fn paired_price(method: PairingMethod, limit: u32, price: u32, last: u32) -> u32
     requires { HasTick method }
     ensures { result ≡ matching.paired_price method limit price last }
@@ -72,27 +75,26 @@ fn paired_price(method: PairingMethod, limit: u32, price: u32, last: u32) -> u32
 
 // Market and best trade at the resting price, a limit order by the contract's method. For our own crates: requires a tick where
 // the method rounds to one.
+#[tactic(auto, unfolding(rules::specs::Matching::trade_price))]
 pub fn trade_price(method: PairingMethod, condition: PriceCondition, price: u32, last: u32) -> u32
     requires { HasTick method }
     ensures { result ≡ matching.trade_price method condition price last }
 {
     match condition {
         PriceCondition::Limit(limit) => paired_price(method, limit, price, last),
-        PriceCondition::Market => price,
-        PriceCondition::Best => price,
+        PriceCondition::Market | PriceCondition::Best => price,
     }
 }
 
 // The trade of an arriving order that has `left` lots left with a resting order. For our own crates: requires a tick where the
 // method rounds to one.
+#[tactic(auto, unfolding(rules::specs::Matching::trade_with))]
 pub fn trade_with(t: Taker, o: Order, left: u32, last: u32) -> Trade
     requires { HasTick t.method }
     ensures { result ≡ matching.trade_with t o left last }
 {
-    let condition = t.condition;
-    let method = t.method;
-    let price = trade_price(method, condition, o.price, last);
-    let lots = laws::smaller(left, o.lots);
+    let price = trade_price(t.method, t.condition, o.price, last);
+    let lots = left.min(o.lots);
     if t.sell {
         Trade {
             contract: t.contract,

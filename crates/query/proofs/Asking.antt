@@ -1,27 +1,39 @@
 -- From the tests as the code makes them to the answer of the rules: an order on a well-formed state, and a record on any. Assumes
 -- nothing.
-use Rattle.laws.specs.Logic.{true, false, not, List, ◌≡◌, sym, ap, ◌∙◌}
+use Rattle.std.proofs.Common.{Result}
+use Rattle.std.specs.Result.{IsErrAnd}
+use Rattle.std.proofs.lemmas.Result.{err_from_is_err_and}
+use Rattle.laws.specs.Logic.{refl, true, false, not, List, ◌≡◌, sym, ap, ◌∙◌}
 use Rattle.laws.specs.Numbers.{ℕ, ◌-◌, ne_eqb, get_or}
 use Rattle.laws.specs.Choice.{pick}
 use Rattle.rules.specs.Answers.{day_without_limit, fillable_lots, first_of, listing_of, taker_of, taker_for, fields_refusals}
+use Rattle.rules.specs.Codes.{code_number}
 use Rattle.rules.specs.Command.{command_of, is_insert, new_order}
 use Rattle.rules.specs.Exchange.{Exchange, listing_at, no_contract, opposite, place_of, is_absent}
 use Rattle.rules.specs.Matching.{sweep, traded_lots}
 use Rattle.rules.specs.Memory.{Memory, exchange_of, queue_in, well_formed_memory, memory, WellFormedState}
-use Rattle.rules.specs.declared.Command.TheVariants.{Insert}
+use Rattle.rules.specs.declared.Command.{Command}
+use Rattle.rules.specs.declared.Command.TheVariants.{Malformed, Deposit, Withdraw, Insert, Cancel, Pull, Phase, Settle, Quote, Change}
 use Rattle.rules.specs.declared.{NewOrder.NewOrder, Record.Record, State.State, Taker.Taker}
+use Rattle.rules.specs.declared.codes.Code.{Code}
 use Rattle.theory.proofs.EachKind.{inserts_its_order}
 use Rattle.theory.proofs.Fillable.{swept_fillable}
 use Rattle.engine.specs.Outcome.{AbsentIs}
 use Rattle.engine.proofs.Formed.{Formed, formed, no_account_lem, no_contract_lem}
 use Rattle.engine.proofs.Named.{one_absent}
 use Rattle.engine.specs.Sides.{side_area, side_count}
-use Rattle.refusals.specs.Insertion.{Facing, Present, QueueRoom}
+use Rattle.rules.specs.declared.Order.{Order}
+use Rattle.refusals.specs.Insertion.{Facing, Present}
 use Rattle.refusals.proofs.Inserting.{present}
 use Rattle.refusals.proofs.Sides.{contract_is, opposite_facing, opposite_is}
-use Rattle.query.specs.Gettable.{GatheredIs, ask_refusals, gettable_now, lots_now, order_reading, question_refusals, read_now, reading_with, refused_reading}
+use Rattle.query.specs.Gettable.{GatheredIs, ask_refusals, gettable_now, lots_now, order_reading, question_refusals, read_now, reading_from, reading_with, refused_reading}
 use Rattle.query.specs.declared.Reading.{Reading}
 use Rattle.query.specs.declared.scan.Gathered.{Gathered}
+
+-- ---- a code that a call gave, passed on by `?`
+
+pub passed_on : (r : Result Gathered Code) (code : Code) → IsErrAnd r (λ y. y ≡ code) → reading_from r ≡ refused_reading (code_number code)
+passed_on r code is = let p = err_from_is_err_and r is in rw (p.1, p.2) refl
 
 -- ---- an order on a well-formed state
 
@@ -67,19 +79,20 @@ module _ {s : State} {buys sells trades : List ℕ} (w : WellFormedState s buys 
       unfolding order_reading reading_with
       refused_fields some = sym (rw (code_is, ne_eqb fields 0 some))
 
-      module _ {area : List ℕ} {count : ℕ} (en : area ≡ side_area (not o.sell) buys sells) (ec : count ≡ side_count (not o.sell) s place) where
-        pub room : QueueRoom area (o.contract - 1) count
-        room = rw (ec, en, is) (opposite_facing m f c p.contract s.next 0 s.nextstamp (listing_at x c).contract o).queue
+      module _ {area : List ℕ} {count : ℕ} (en : area ≡ side_area (not o.sell) buys sells) (ec : count ≡ side_count (not o.sell) s place)
+          {queue : List Order} (eq : queue ≡ queue_in area place count) where
+        stands : queue ≡ queue_in (side_area (not o.sell) buys sells) c (side_count (not o.sell) s c)
+        stands = eq ∙ rw (ec, en, is)
 
-        module _ {t : Taker} (et : t ≡ taker_for s.next 0 s.nextstamp (get_or s.contracts place no_contract) (queue_in area (o.contract - 1) count) o) where
-          pub facing : Facing t area place count
-          facing = rw (et, ec, en, is) (opposite_facing m f c p.contract s.next 0 s.nextstamp _ o)
+        module _ {t : Taker} (et : t ≡ taker_for s.next 0 s.nextstamp (get_or s.contracts place no_contract) queue o) where
+          pub facing : Facing t queue
+          facing = rw (et, stands) (opposite_facing m f c p.contract s.next 0 s.nextstamp _ o)
 
-          pub answered : fields ≡ 0 → {r : Gathered} → GatheredIs t o.lots (queue_in area place count) r
+          pub answered : fields ≡ 0 → {r : Gathered} → GatheredIs t o.lots queue r
               → record { code = 0; lots = r.lots; read = r.read } ≡ order_reading x o
           unfolding order_reading reading_with lots_now read_now fillable_lots taker_of listing_of exchange_of
           answered passed {r} gathered =
-              rw (gathered.lots, gathered.read, et, ec, en, is) (sym (rw (code_is, passed, opposite_is m f c p.contract o.sell, contract_is m f c p.contract)))
+              rw (gathered.lots, gathered.read, et, stands, is) (sym (rw (code_is, passed, opposite_is m f c p.contract o.sell, contract_is m f c p.contract)))
 
   -- the lots to be had are those that the sweep would trade, whatever the last price
   pub would_trade : Present s o → (last : ℕ) → traded_lots (sweep (taker_of x x.next 0 o) o.lots last (opposite o.sell (listing_of x o))).trades ≡ lots_now x o
@@ -106,6 +119,15 @@ module _ (m : Memory) (r : Record) where
         let same : o ≡ new_order r = inserts_its_order r i in
         q ∙ ap (order_reading (exchange_of m)) same ∙ sym (rw (e, i))
 
--- a record that is told to be another
-pub asked_as : (m : Memory) {asked told : Record} {a : Reading} → told ≡ asked → a ≡ gettable_now m told → a ≡ gettable_now m asked
-asked_as m e q = q ∙ ap (gettable_now m) e
+-- a command of another kind
+pub other_than_insert : (d : Command) → ((o : NewOrder) → d ≡ Insert o → ⊥) → is_insert d ≡ false
+other_than_insert (Insert o) other = absurd (other o refl)
+other_than_insert Malformed other = refl
+other_than_insert (Deposit account amount) other = refl
+other_than_insert (Withdraw account amount) other = refl
+other_than_insert (Cancel account contract operator number) other = refl
+other_than_insert (Pull account contract operator) other = refl
+other_than_insert (Phase contract phase) other = refl
+other_than_insert Settle other = refl
+other_than_insert (Quote account contract lots buy sell) other = refl
+other_than_insert (Change account contract number lots price) other = refl

@@ -1,8 +1,9 @@
 -- How much could I get? What an order would trade now, and how many resting orders are read to know it (document 02, ticket 3).
 -- The contract's state plays no part, nor does the time condition beyond code 6. Assumes nothing.
-use Rattle.std.specs.Prelude.{not, List, [], ◌∷◌, ◌++◌, ◌≡◌, ℕ, ◌+◌, ◌-◌, min, eqb, ltb}
+use Rattle.std.specs.Prelude.{Ok, Err, Result, not, List, [], ◌∷◌, ◌++◌, ◌≡◌, ℕ, ◌+◌, ◌-◌, min, eqb, ltb}
 use Rattle.laws.specs.Choice.{pick}
 use Rattle.rules.specs.Answers.{Refusal, ◌when◌, absent_refusals, day_without_limit, fields_refusals, fillable_lots, first_of, listing_of, taker_of}
+use Rattle.rules.specs.Codes.{code_number}
 use Rattle.rules.specs.Command.{command_of, is_insert, new_order}
 use Rattle.rules.specs.Exchange.{Exchange, opposite}
 use Rattle.rules.specs.Matching.{counterpart, fillable}
@@ -11,6 +12,7 @@ use Rattle.rules.specs.declared.NewOrder.{NewOrder}
 use Rattle.rules.specs.declared.Order.{Order}
 use Rattle.rules.specs.declared.Record.{Record}
 use Rattle.rules.specs.declared.Taker.{Taker}
+use Rattle.rules.specs.declared.codes.Code.{Code}
 use Rattle.query.specs.declared.Reading.{Reading}
 use Rattle.query.specs.declared.scan.Gathered.{Gathered}
 
@@ -51,6 +53,11 @@ ask_refusals m r =
 -- "both numbers are then 0"
 abbrev pub refused_reading : ℕ → Reading
 refused_reading code = record { code = code; lots = 0; read = 0 }
+
+-- what was gathered, or the code of the first refusal
+abbrev pub reading_from : Result Gathered Code → Reading
+reading_from (Ok gathered) = record { code = 0; lots = gathered.lots; read = gathered.read }
+reading_from (Err code) = refused_reading (code_number code)
 
 -- a code, and for 0 the two numbers
 unfoldable pub reading_with : ℕ → Exchange → NewOrder → Reading

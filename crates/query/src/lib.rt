@@ -6,17 +6,24 @@ ghost use Rattle.std.specs.Prelude.{true, ◌≡◌};
 ghost use Rattle.rules.specs.Answers.{fields_refusals};
 ghost use Rattle.rules.specs.Answers as answer;
 ghost use Rattle.rules.specs.Bounds.{terms_in_range};
+ghost use Rattle.rules.specs.Codes.{code_in};
 ghost use Rattle.rules.specs.DayFile.{record_from};
-ghost use Rattle.rules.specs.Memory.{exchange_of, memory, WellFormedState};
-ghost use Rattle.query.specs.Gettable.{gettable_now, order_reading, refused_reading};
+ghost use Rattle.rules.specs.Memory.{exchange_of, memory};
+ghost use Rattle.engine.specs.Market.{memory_of};
+ghost use Rattle.query.specs.Gettable.{gettable_now, order_reading, reading_from};
 
+use crate::scan::Gathered;
+use book::orders::Queue;
 use engine::answers;
+use engine::market::Market;
 use refusals::{codes, orders};
+use rules::codes::Code;
 use rules::{Command, Contract, NewOrder, Record, State};
 
 pub mod scan;
 
-// The code, the lots that would trade, and the number of resting orders read to know it.
+// The code, the lots that would trade, and the number of resting orders read to know it. The C interface needs the code's number, 0
+// for none.
 #[repr(C)]
 #[derive(Clone, Copy)]
 pub struct Reading {
@@ -25,64 +32,80 @@ pub struct Reading {
     pub read: usize,
 }
 
-// "both numbers are then 0"
-fn refused(code: u32) -> Reading
-    ensures { result ≡ refused_reading code }
+// What a question gives, as the record holds it: "both numbers are then 0" beside a code.
+fn reading_from(given: Result<Gathered, Code>) -> Reading
+    ensures { result ≡ reading_from given }
 {
-    Reading {
-        code,
-        lots: 0,
-        read: 0,
+    match given {
+        Ok(gathered) => Reading {
+            code: 0,
+            lots: gathered.lots,
+            read: gathered.read,
+        },
+        Err(code) => Reading {
+            code: code.number(),
+            lots: 0,
+            read: 0,
+        },
     }
 }
 
 // Codes 5 to 7 of the question: its 6 is that of document 01 in every state, auction too.
-fn fields_code(terms: Contract, o: NewOrder) -> u32
+fn fields_code(terms: Contract, o: NewOrder) -> Result<(), Code>
     requires { terms_in_range terms ≡ true }
-    ensures { result ≡ answer.first_of (fields_refusals (answer.day_without_limit o.condition o.time) terms o) }
+    ensures { code_in result ≡ answer.first_of (fields_refusals (answer.day_without_limit o.condition o.time) terms o) }
 {
-    let condition = o.condition;
-    let time = o.time;
-    let conditions = codes::is_day_without_limit(condition, time);
+    let conditions = codes::is_day_without_limit(o.condition, o.time);
     codes::fields_code(terms, conditions, o)
 }
 
 // An order on a well-formed state. Its contract's state and its time condition are not looked at beyond code 6.
-fn reading_of<'a>(
-    state: State,
-    buys: &'a [u32],
-    sells: &'a [u32],
-    trades: &'a [u32],
-    o: NewOrder,
-) -> Reading
-    requires { WellFormedState state buys.now sells.now trades.now }
-    ensures { result ≡ order_reading (exchange_of (memory state buys.now sells.now trades.now)) o }
+fn reading_of(market: &Market<'_>, o: NewOrder) -> Result<Gathered, Code>
+    ensures { reading_from result ≡ order_reading (exchange_of (memory_of market.now)) o }
 {
-    let absent = answers::absent_code(
+    let state = market.state;
+    answers::absent_code(
         state.accountcount,
         state.contractcount,
         o.account,
         o.contract,
-    );
-    if absent != 0 {
-        return refused(absent);
-    }
+    )?;
     let c = laws::place_of(o.contract);
-    let contracts = state.contracts;
-    let terms = contracts[c];
-    let fields = fields_code(terms, o);
-    if fields != 0 {
-        return refused(fields);
-    }
-    let area = orders::side_area(!o.sell, buys, sells);
+    let terms = state.contracts[c];
+    fields_code(terms, o)?;
     let count = orders::side_count(!o.sell, state, c);
-    let t = orders::taker_of(state.next, 0, state.nextstamp, terms, area, count, o);
-    let g = scan::gather(area, c, count, t, o.lots);
-    Reading {
-        code: 0,
-        lots: g.lots,
-        read: g.read,
+    let queue = Queue::new(
+        orders::side_area(!o.sell, market.buys, market.sells),
+        c,
+        count,
+    );
+    let t = orders::taker_of(state.next, 0, state.nextstamp, terms, &queue, o);
+    Ok(scan::gather(&queue, t, o.lots))
+}
+
+// The order that a record would insert, on any state.
+fn asked_of<'a>(
+    state: State,
+    buys: &'a [u32],
+    sells: &'a [u32],
+    trades: &'a [u32],
+    asked: Record,
+) -> Result<Gathered, Code>
+    ensures { reading_from result ≡ gettable_now (memory state buys.now sells.now trades.now) asked }
+{
+    if !audit::well_formed(state, buys, sells, trades) {
+        return Err(Code::StateNotWellFormed);
     }
+    let Command::Insert(o) = commands::command_of(asked) else {
+        return Err(Code::Malformed);
+    };
+    let market = Market {
+        state: &state,
+        buys,
+        sells,
+        trades,
+    };
+    reading_of(&market, o)
 }
 
 // A call for users: it answers on anything. The order is asked for by the record that would insert it.
@@ -95,14 +118,7 @@ pub fn gettable_record<'a>(
 ) -> Reading
     ensures { result ≡ gettable_now (memory state buys.now sells.now trades.now) asked }
 {
-    if !audit::well_formed(state, buys, sells, trades) {
-        return refused(21);
-    }
-    let command = commands::command_of(asked);
-    let Command::Insert(o) = command else {
-        return refused(1);
-    };
-    reading_of(state, buys, sells, trades, o)
+    reading_from(asked_of(state, buys, sells, trades, asked))
 }
 
 // The same by the record's 24 bytes.

@@ -1,8 +1,8 @@
-// The queue read for an order that is only asked about. For our own crates: it asks for the queue's room and order.
-ghost use Rattle.rules.specs.Memory.{queue_in};
+// The queue read for an order that is only asked about. For our own crates: it asks for the queue's order.
 ghost use Rattle.refusals.specs.Insertion.{Facing};
 ghost use Rattle.query.specs.Gettable.{GatheredIs};
 
+use book::orders::Queue;
 use rules::Taker;
 
 // The lots that an order gets, and how many orders were read.
@@ -13,30 +13,26 @@ pub struct Gathered {
 }
 
 // "Reading ends when the lots are covered or an order that is no counterpart is met."
-pub fn gather(area: &[u32], c: usize, count: usize, t: Taker, lots: u32) -> Gathered
-    requires { Facing t area.now c count }
-    ensures { GatheredIs t lots (queue_in area.now c count) result }
+pub fn gather(queue: &Queue<'_>, t: Taker, lots: u32) -> Gathered
+    requires { Facing t queue.now }
+    ensures { GatheredIs t lots queue.now result }
 {
-    let condition = t.condition;
     let mut left = lots;
-    let mut i: usize = 0;
-    while i < count {
+    for i in 0..queue.len() {
         if left == 0 {
             return Gathered { lots, read: i };
         }
-        let o = book::queue::order_at(area, c, i);
-        if !prices::meets(condition, t.sell, t.best, o.price) {
+        let o = queue.order(i);
+        if !prices::is_counterpart(t, o) {
             return Gathered {
                 lots: lots - left,
                 read: i + 1,
             };
         }
-        let size = laws::smaller(left, o.lots);
-        left -= size;
-        i += 1;
+        left = left.saturating_sub(o.lots);
     }
     Gathered {
         lots: lots - left,
-        read: i,
+        read: queue.len(),
     }
 }

@@ -1,8 +1,11 @@
 -- An order of a quote: refused with its code from 5 on, or entered marked. Assumes nothing.
+use Rattle.std.proofs.Common.{Result, Err}
+use Rattle.std.specs.Result.{IsErrAnd}
+use Rattle.std.proofs.lemmas.Result.{err_from_is_err_and}
 use mathlib.Core.Bool.{Bool, true, false}
 use mathlib.Core.List.{List}
 use mathlib.Core.Path.{◌≡◌, refl, sym, ap, ◌∙◌}
-use Prim.Native.Nat.{ℕ, ◌+◌, ◌-◌, ◌<◌, ◌≤◌}
+use Prim.Native.Nat.{ℕ, ◌+◌, ◌-◌, ◌<◌}
 use native.Mathlib.Omega.{arith}
 use borrow.Author.Tests.{eqb-true, ne_eqb}
 use lib.Dec.{eqb}
@@ -15,15 +18,20 @@ use Rattle.rules.specs.Kinds.{refused}
 use Rattle.rules.specs.Memory.{Memory, AfterCommand, WellFormedState, exchange_of, in_memory, memory}
 use Rattle.rules.specs.declared.NewOrder.{NewOrder}
 use Rattle.rules.specs.declared.State.{State}
+use Rattle.rules.specs.declared.codes.Code.{Code}
 use Rattle.theory.proofs.Refusals.{Failed, failed}
 use Rattle.invariants.proofs.InsertAccepted.{Passes, next_given, numbers_left, order_passes}
 use Rattle.invariants.proofs.Marks.{Marks}
-use Rattle.engine.specs.Outcome.{OutcomeIs, refused_with}
+use Rattle.engine.specs.Outcome.{OutcomeIs}
 use Rattle.engine.specs.declared.answers.Outcome.{Outcome}
 use Rattle.engine.proofs.Formed.{Formed, accounts_count, contracts_count, formed}
 use Rattle.insertion.specs.Entry.{Enterable, entered_in}
 use Rattle.insertion.proofs.Entering.{may_enter}
 use Rattle.quoting.specs.Placing.{Quotable, marked_in}
+
+-- a code that a call gave, passed on by `?`
+pub passed_on : {A : Type 0} (r : Result A Code) (code : Code) → IsErrAnd r (λ y. y ≡ code) → r ≡ Err code
+passed_on r code is = let p = err_from_is_err_and r is in rw (p.1, p.2) refl
 
 -- a code that is told, whichever way it went
 told_either : (code : ℕ) (entered : AfterCommand) (m : Memory) → entered.answer.code ≡ 0 → (pick (eqb code 0) entered (in_memory m (refused code))).answer.code ≡ code
@@ -56,18 +64,10 @@ module _ {s : State} {buys sells trades : List ℕ} (w : WellFormedState s buys 
   f : Formed m
   f = formed w
 
-  pub marked_low : 1 ≤ o.account
-  marked_low = g.present.account_low
-
   pub marked_fits : {place : ℕ} → place ≡ o.account - 1 → place < max_accounts
   marked_fits e = omega (arith, g.present.account, f.accounts_high)
 
   module _ {code : ℕ} (ec : code ≡ first_of (order_refusals x o)) where
-    pub marked_refused : {r : Outcome} → (code ≡ 0 → ⊥) → r ≡ refused_with s code → OutcomeIs (marked_in m o) r buys sells trades
-    marked_refused some a =
-        rw (← ec, ne_eqb code 0 some)
-        (record { answer = ap (λ (q : Outcome). q.answer) a; memory = ap (λ (q : Outcome). memory q.state buys sells trades) a })
-
     module _ (clear : code ≡ 0) where
       tests : Failed (order_refusals x o)
       unfolding order_refusals

@@ -54,7 +54,7 @@ use Rattle.engine.proofs.Named.{account_there}
 use Rattle.insertion.specs.Entry.{entered_in}
 use Rattle.quoting.specs.Placing.{GoneIs, Quotable, PlacedIs, Undoable, early_refusals, gone_in, made_from, marked_in}
 use Rattle.quoting.proofs.Marking.{entered_so, nothing_moved, told}
-use Rattle.quoting.proofs.Undo.{made_room, undo_both, undo_nothing, undo_queue, undo_trades}
+use Rattle.quoting.proofs.Undo.{made_room, undo_both, undo_nothing, undo_queue, undo_trades, queue_room}
 
 -- an order trades at most once with each order that it meets
 needed_few : (y : Exchange) (number : ℕ) (o : NewOrder) → trades_needed y number o ≤ length (opposite o.sell (listing_of y o))
@@ -185,6 +185,10 @@ module _ {s : State} {buys sells trades : List ℕ} (w : WellFormedState s buys 
 
     pub here : c < s.contractcount
     here = first.contract_here w account contract named
+
+    -- a queue of the contract, kept or put back
+    pub part_room : (side : Bool) {place n : ℕ} → place ≡ c → n ≡ queue_stride → queue_stride * place + n ≤ length (pick side sells buys)
+    part_room side is en = queue_room w here side is en
 
     pub contract_low : 1 ≤ contract
     contract_low = first.contract_low w account contract named
@@ -550,10 +554,3 @@ module _ {s : State} {buys sells trades : List ℕ} (w : WellFormedState s buys 
                         sells_back = λ z. absurd (z zero-told);
                         trades_back = λ z. absurd (z zero-told);
                       }
-
--- refused, with every area as it was
-pub quote_undone : {s : State} {buys sells trades : List ℕ} {account contract lots buy sell : ℕ} {r : Outcome} {buys' sells' trades' : List ℕ}
-    → PlacedIs s buys sells trades account contract lots buy sell r buys' sells' trades' → (r.answer.code ≡ 0 → ⊥)
-    → {buys'' sells'' trades'' : List ℕ} → buys'' ≡ buys → sells'' ≡ sells → trades'' ≡ trades
-    → OutcomeIs (step_in (memory s buys sells trades) (Quote account contract lots buy sell)) r buys'' sells'' trades''
-quote_undone p some b o t = rw (b, o, t) (p.refused some)

@@ -1,18 +1,17 @@
 -- Words written within a part of an area are undone by writing the part as it was. Assumes nothing.
 use mathlib.Core.Bool.{Bool, true, false}
-use mathlib.Core.List.{List, [], ◌∷◌}
+use mathlib.Core.List.{List}
 use mathlib.Core.Path.{◌≡◌, refl, sym, ap, ◌∙◌}
 use Prim.Native.Nat.{ℕ, ◌+◌, ◌-◌, ◌*◌, ◌<◌, ◌≤◌}
 use native.Mathlib.Omega.{arith}
 use borrow.Author.Tests.{leb-true, leb-false}
 use lib.Dec.{leb}
-use native.Mathlib.Numerals.{add-one}
-use lib.ListN.{length, get_or, set, take, drop, length-append, length-drop, length-replicate}
-use lib.Seq.{get_or-drop, get_or-take, length-take-le, take_all, take-suc}
+use lib.ListN.{length, take, drop, length-append, length-drop, length-replicate}
+use lib.Seq.{length-take-le}
 use Rattle.laws.specs.Choice.{pick}
 use Rattle.areas.specs.Lists.{over, padded}
 use Rattle.areas.specs.Records.{store, encode}
-use Rattle.areas.proofs.Lists.{length_over, over_append, over_inside, over_nil, over_over, over_part, over_tail, set_over}
+use Rattle.areas.proofs.Lists.{length_over, over_inside, over_over, over_part}
 use Rattle.areas.proofs.Records.{length_encode, store_over}
 use Rattle.rules.specs.Bounds.{max_resting, max_trades, trades_with_room}
 use Rattle.rules.specs.Exchange.{no_order}
@@ -90,40 +89,6 @@ made_room recorded = by_recorded (leb recorded trades_with_room) refl
 pub undo_nothing : (at n : ℕ) (a : List ℕ) → at + n ≤ length a → Undoable at n a a
 undo_nothing at n a room = record { long = refl; back = over_part a at n room }
 
--- ---- words copied one after the other
-
-pub copy_next : (a : List ℕ) (at : ℕ) (k : List ℕ) (i : ℕ) → i < length k → at + length k ≤ length a → set (over a at (take i k)) (at + i) (get_or k i 0) ≡ over a at (take (i + 1) k)
-copy_next a at k i h room =
-    let l : length (take i k) ≡ i = length-take-le i k (omega arith) in
-    let lo : length (over a at (take i k)) ≡ length a = length_over a at (take i k) (rw l (omega arith)) in
-    set_over (over a at (take i k)) (at + i) (get_or k i 0) (rw lo (omega arith))
-    ∙ ap (λ (n : ℕ). over (over a at (take i k)) (at + n) (get_or k i 0 ∷ [])) (sym l)
-    ∙ sym (over_append a at (take i k) (omega arith) (get_or k i 0 ∷ []))
-    ∙ rw (add-one, take-suc k i 0 h)
-
-pub copy_none : (a : List ℕ) (at : ℕ) (k : List ℕ) → a ≡ over a at (take 0 k)
-copy_none a at k = sym (over_nil a at)
-
--- ---- words kept: so far i of as many as there is room for
-
-abbrev pub kept_so : List ℕ → ℕ → List ℕ → ℕ → List ℕ
-kept_so a at kept i = over kept 0 (take i (take (length kept) (drop at a)))
-
-module _ (a : List ℕ) (at : ℕ) (kept : List ℕ) (room : at + length kept ≤ length a) where
-  pub keep_none : kept ≡ kept_so a at kept 0
-  keep_none = copy_none kept 0 (take (length kept) (drop at a))
-
-  pub keep_next : (i : ℕ) → i < length kept → set (kept_so a at kept i) i (get_or a (at + i) 0) ≡ kept_so a at kept (i + 1)
-  keep_next i h =
-      let l : length (take (length kept) (drop at a)) ≡ length kept = part_length a at (length kept) room in
-      let z : 0 + i ≡ i = omega arith in
-      rw (← get_or-drop, ← get_or-take (length kept) (drop at a) i 0) (rw z at (copy_next kept 0 (take (length kept) (drop at a)) i (omega arith) (omega arith)))
-
-  pub keep_all : kept_so a at kept (length kept) ≡ take (length kept) (drop at a)
-  keep_all =
-      let l : length (take (length kept) (drop at a)) ≡ length kept = part_length a at (length kept) room in
-      rw (take_all (length kept) (take (length kept) (drop at a)) (omega arith)) (over_tail kept 0 (take (length kept) (drop at a)) (omega arith))
-
 -- ---- what is kept before a quote is placed, and put back where it is refused
 
 module _ {s : State} {buys sells trades : List ℕ} (w : WellFormedState s buys sells trades) where
@@ -135,8 +100,3 @@ module _ {s : State} {buys sells trades : List ℕ} (w : WellFormedState s buys 
   -- the trades that one order can make
   pub kept_room : {at n : ℕ} → at ≡ made_from s.tradecount → n ≡ trade_stride * max_resting → at + n ≤ length trades
   kept_room ea en = rw (ea, en) (omega (arith, made_room s.tradecount, (formed w).trades_room))
-
--- an area is as it was once the words kept of it are put back
-pub undone : {at n : ℕ} {before after : List ℕ} → Undoable at n before after → {at' n' : ℕ} → at' ≡ at → n' ≡ n
-    → {kept back : List ℕ} → kept ≡ take n' (drop at' before) → back ≡ over after at' kept → back ≡ before
-undone u ea en e h = h ∙ rw (e, ea, en) u.back

@@ -1,25 +1,26 @@
 -- A quote as the code places it: the tests on the state alone, the old quote gone, an order of it entered or refused, and what has to
 -- be put back where it is refused. Assumes nothing.
-use Rattle.std.specs.Prelude.{Bool, true, false, List, ◌++◌, ◌≡◌, ℕ, ◌+◌, ◌*◌, eqb, leb, length, take, drop}
+use Rattle.std.specs.Prelude.{Some, None, Option, Ok, Err, Result, false, List, ◌++◌, ◌≡◌, ℕ, ◌+◌, ◌*◌, eqb, leb, length, take, drop}
 use Rattle.areas.specs.Lists.{over}
 use Rattle.laws.specs.Choice.{pick}
 use Rattle.rules.specs.Answers.{Refusal, first_of, listing_of, named_refusals, not_continuous, order_refusals}
 use Rattle.rules.specs.Bounds.{max_resting, trades_with_room}
+use Rattle.rules.specs.Codes.{code_number}
 use Rattle.rules.specs.Exchange.{Exchange, account_at, holder_of, own, place_of}
 use Rattle.rules.specs.Kinds.{refused}
 use Rattle.rules.specs.Memory.{Memory, AfterCommand, exchange_of, in_memory, memory, put, queue_stride, step_in, trade_stride}
-use Rattle.rules.specs.Step.{answer_of}
 use Rattle.rules.specs.Quote.{offer_refusals, without_quote_of}
 use Rattle.rules.specs.WellFormed.{quotes}
 use Rattle.rules.specs.declared.Command.{Command}
 use Rattle.rules.specs.declared.Command.TheVariants.{Quote}
 use Rattle.rules.specs.declared.NewOrder.{NewOrder}
 use Rattle.rules.specs.declared.State.{State}
+use Rattle.rules.specs.declared.codes.Code.{Code}
 use Rattle.engine.specs.Decision.{with_listed}
 use Rattle.engine.specs.Outcome.{OutcomeIs, refused_with}
 use Rattle.engine.specs.declared.answers.Outcome.{Outcome}
 use Rattle.engine.specs.declared.updates.Listed.{Listed}
-use Rattle.quoting.specs.declared.Quoted.{Quoted}
+use Rattle.engine.specs.declared.updates.Quoted.{Quoted}
 use Rattle.quoting.specs.declared.Rested.{Rested}
 use Rattle.refusals.specs.Insertion.{Present}
 use Rattle.insertion.specs.Entry.{entered_in}
@@ -55,6 +56,11 @@ marked_in m o =
     (entered_in m o m.state.next 1 (m.state.next + 1))
     (in_memory m (refused (first_of (order_refusals (exchange_of m) o))))
 
+-- what a step on a state gives: refused, it leaves the state
+abbrev pub outcome_in : State → Result Outcome Code → Outcome
+outcome_in s (Ok r) = r
+outcome_in s (Err code) = refused_with s (code_number code)
+
 -- ---- both orders
 
 -- an area that is as it was once n words of it from a place on are put back
@@ -76,16 +82,17 @@ pub record PlacedIs (s : State) (buys sells trades : List ℕ) (account contract
 
 -- ---- the way on which nothing trades
 
--- of what is not done
-abbrev pub unrested_as : Listed → ℕ → Bool → Rested
-unrested_as l code trades = record { listed = l; answer = answer_of code 0 0 0; trades = trades }
-
--- an order refused or resting, as the rules say; or it would trade, and both queues are as they were
-pub record RestedIs (s : State) (buys sells trades : List ℕ) (o : NewOrder) (r : Rested) (buys' sells' : List ℕ) : Type 0 where
+-- it rests as the rules say, and leaves the contract so
+pub record Rests (s : State) (buys sells trades : List ℕ) (o : NewOrder) (r : Rested) (buys' sells' : List ℕ) : Type 0 where
   pub place : r.listed.place ≡ place_of o.contract
-  pub refused : (r.answer.code ≡ 0 → ⊥) → OutcomeIs (marked_in (memory s buys sells trades) o) (record { answer = r.answer; state = s }) buys' sells' trades
-  pub rests : r.answer.code ≡ 0 → r.trades ≡ false → OutcomeIs (marked_in (memory s buys sells trades) o) (record { answer = r.answer; state = with_listed s r.listed }) buys' sells' trades
-  pub left : r.answer.code ≡ 0 → r.trades ≡ true → (buys' ≡ buys) × (sells' ≡ sells)
+  pub code : r.answer.code ≡ 0
+  pub outcome : OutcomeIs (marked_in (memory s buys sells trades) o) (record { answer = r.answer; state = with_listed s r.listed }) buys' sells' trades
+
+-- an order refused or resting; or it would trade, and both queues are as they were
+abbrev pub RestedIs : State → List ℕ → List ℕ → List ℕ → NewOrder → Result (Option Rested) Code → List ℕ → List ℕ → Type 0
+RestedIs s buys sells trades o (Ok (Some r)) buys' sells' = Rests s buys sells trades o r buys' sells'
+RestedIs s buys sells trades o (Ok None) buys' sells' = (buys' ≡ buys) × (sells' ≡ sells)
+RestedIs s buys sells trades o (Err code) buys' sells' = OutcomeIs (marked_in (memory s buys sells trades) o) (refused_with s (code_number code)) buys' sells' trades
 
 -- the quote that is asked for
 abbrev pub asked : Quoted → Command
@@ -96,10 +103,18 @@ pub record PutBack (buys sells : List ℕ) (q : Quoted) (buys' sells' : List ℕ
   pub of_buys : Undoable (queue_stride * place_of q.contract) queue_stride buys buys'
   pub of_sells : Undoable (queue_stride * place_of q.contract) queue_stride sells sells'
 
--- both orders: the quote refused or resting, as the rules say; where it does not rest, each queue can be put back
-pub record RestedBothIs (s : State) (buys sells trades : List ℕ) (q : Quoted) (r : Rested) (buys' sells' : List ℕ) : Type 0 where
+-- both rest as the rules say, and leave the contract so
+pub record BothRest (s : State) (buys sells trades : List ℕ) (q : Quoted) (r : Rested) (buys' sells' : List ℕ) : Type 0 where
   pub place : r.listed.place ≡ place_of q.contract
-  pub refused : (r.answer.code ≡ 0 → ⊥) → OutcomeIs (step_in (memory s buys sells trades) (asked q)) (refused_with s r.answer.code) buys sells trades
-  pub rests : r.answer.code ≡ 0 → r.trades ≡ false → OutcomeIs (step_in (memory s buys sells trades) (asked q)) (record { answer = r.answer; state = with_listed s r.listed }) buys' sells' trades
-  pub refused_back : (r.answer.code ≡ 0 → ⊥) → PutBack buys sells q buys' sells'
-  pub left_back : r.answer.code ≡ 0 → r.trades ≡ true → PutBack buys sells q buys' sells'
+  pub outcome : OutcomeIs (step_in (memory s buys sells trades) (asked q)) (record { answer = r.answer; state = with_listed s r.listed }) buys' sells' trades
+
+-- the rules refuse it with that code
+pub record BothRefused (s : State) (buys sells trades : List ℕ) (q : Quoted) (code : ℕ) (buys' sells' : List ℕ) : Type 0 where
+  pub outcome : OutcomeIs (step_in (memory s buys sells trades) (asked q)) (refused_with s code) buys sells trades
+  pub back : PutBack buys sells q buys' sells'
+
+-- both orders: resting or the quote refused; or one would trade. Where they do not rest, each queue can be put back
+abbrev pub RestedBothIs : State → List ℕ → List ℕ → List ℕ → Quoted → Result (Option Rested) Code → List ℕ → List ℕ → Type 0
+RestedBothIs s buys sells trades q (Ok (Some r)) buys' sells' = BothRest s buys sells trades q r buys' sells'
+RestedBothIs s buys sells trades q (Ok None) buys' sells' = PutBack buys sells q buys' sells'
+RestedBothIs s buys sells trades q (Err code) buys' sells' = BothRefused s buys sells trades q (code_number code) buys' sells'

@@ -14,7 +14,7 @@ use Rattle.laws.specs.Lists.{at_set}
 use Rattle.rules.specs.Answers.{money_refused}
 use Rattle.rules.specs.Exchange.{Exchange, account_at, holding_at, no_account, no_contract, no_holding, place_of}
 use Rattle.rules.specs.Holdings.{after_leg, book_leg, with_holding}
-use Rattle.rules.specs.Margin.{charged, charged_with, with_open}
+use Rattle.rules.specs.Margin.{charged_with, with_open}
 use Rattle.rules.specs.Memory.{Memory, exchange_of, listing_in, memory, WellFormedState}
 use Rattle.rules.specs.declared.Account.{Account}
 use Rattle.rules.specs.declared.Holding.{Holding}

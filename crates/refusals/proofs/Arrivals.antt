@@ -7,20 +7,20 @@ use Prim.Native.Nat.{ℕ, suc, ◌+◌, ◌-◌, ◌≤◌}
 use native.Mathlib.Omega.{arith}
 use borrow.Author.Tests.{le-ltb}
 use lib.Dec.{ltb}
-use lib.ListN.{length, get_or, drop}
+use lib.ListN.{length, get_or}
 use Rattle.laws.specs.Choice.{pick}
 use Rattle.rules.specs.Answers.{no_room_for, trades_against}
 use Rattle.rules.specs.Bounds.{in_auction, max_resting, max_trades, trades_with_room}
 use Rattle.book.specs.EarlyStop.{count_trades, fillable_front}
 use Rattle.rules.specs.Exchange.{best_price, no_order}
 use Rattle.rules.specs.Matching.{counterpart, fillable}
-use Rattle.rules.specs.Memory.{order_from, queue_in, first_word}
 use Rattle.rules.specs.declared.Contract.{Contract}
 use Rattle.rules.specs.declared.Order.{Order}
 use Rattle.rules.specs.declared.Taker.{Taker}
-use Rattle.theory.proofs.Codecs.{length_queue, order_at_lem}
 use Rattle.book.proofs.EarlyStop.{front_fillable, trades_counted}
-use Rattle.refusals.specs.Insertion.{Facing, QueueRoom}
+use Rattle.book.specs.Places.{front}
+use Rattle.refusals.specs.Insertion.{Facing}
+use Rattle.std.proofs.Common.{None, Some}
 
 -- ---- the best price
 
@@ -34,12 +34,14 @@ unfolding best_price
 best_empty [] e = refl
 best_empty (o ∷ os) e = absurd (omega arith)
 
-module _ (area : List ℕ) (c count : ℕ) where
-  pub best_none : count ≡ 0 → best_price (queue_in area c count) ≡ 0
-  best_none e = best_empty (queue_in area c count) (length_queue area c count ∙ e)
+-- the best price is that of the order in front
+pub best_none : (os : List Order) → front os ≡ None → 0 ≡ best_price os
+best_none [] e = sym (best_empty [] refl)
+best_none (o ∷ os) e = cc
 
-  pub best_first : {o : Order} → (count ≡ 0 → ⊥) → o ≡ order_from (drop (first_word c 0) area) → o.price ≡ best_price (queue_in area c count)
-  best_first some e = ap (λ (p : Order). p.price) (e ∙ sym (order_at_lem area c count 0 (omega arith))) ∙ sym (best_at (queue_in area c count))
+pub best_there : (os : List Order) {o : Order} → front os ≡ Some o → o.price ≡ best_price os
+best_there [] e = cc
+best_there (p ∷ os) {o} e = let same : p ≡ o = cc in ap (λ (q : Order). q.price) (sym same) ∙ sym (best_at (p ∷ os))
 
 -- ---- the trades: at most one with each order
 
@@ -53,12 +55,9 @@ count_within t left (o ∷ os) = by_trade (ltb 0 left && counterpart t o) (count
     by_trade false h = omega arith
 
 -- 12: in auction there are none; up to `trades_with_room` recorded trades there is room for one with each order
-module _ (terms : Contract) (t : Taker) (lots : ℕ) {area : List ℕ} {c count : ℕ} (room : QueueRoom area c count) where
-  abbrev queue : List Order
-  queue = queue_in area c count
-
+module _ (terms : Contract) (t : Taker) (lots : ℕ) (queue : List Order) (few : length queue ≤ max_resting) where
   pub few_trades : count_trades t lots queue ≤ max_resting
-  few_trades = omega (arith, count_within t lots queue, length_queue area c count, room.few)
+  few_trades = omega (arith, count_within t lots queue, few)
 
   pub trades_none : (recorded : ℕ) → recorded ≤ max_trades → in_auction terms ≡ true → false ≡ no_room_for recorded (trades_against terms t lots queue)
   unfolding trades_against
@@ -77,5 +76,5 @@ module _ (terms : Contract) (t : Taker) (lots : ℕ) {area : List ℕ} {c count 
 
 -- ---- the lots that can be filled
 
-pub facing_fillable : {t : Taker} {area : List ℕ} {c count : ℕ} → Facing t area c count → fillable_front t (queue_in area c count) ≡ fillable t (queue_in area c count)
-facing_fillable {t} {area} {c} {count} f = front_fillable t (queue_in area c count) f.order f.best
+pub facing_fillable : {t : Taker} {queue : List Order} → Facing t queue → fillable_front t queue ≡ fillable t queue
+facing_fillable {t} {queue} f = front_fillable t queue f.order f.best

@@ -31,8 +31,8 @@ use Rattle.engine.proofs.Tests.{place_below}
 use Rattle.engine.specs.Decision.{listed_in}
 use Rattle.engine.specs.Sides.{side_area, side_count}
 use Rattle.engine.specs.declared.updates.Listed.{Listed}
-use Rattle.refusals.specs.Insertion.{Facing, MeetsQueue, Present, QueueRoom}
-use Rattle.refusals.proofs.Sides.{contract_is, contract_terms, opposite_facing, opposite_is, resting_low, side_is, side_room}
+use Rattle.refusals.specs.Insertion.{Facing, MeetsQueue, Present}
+use Rattle.refusals.proofs.Sides.{contract_is, contract_terms, opposite_facing, opposite_is, resting_low, side_few, side_is, side_room}
 
 -- 10 to 13, in any exchange in which the order meets the queue so
 pub book_tests : {x : Exchange} {o : NewOrder} {l : Listed} {terms : Contract} {own : ℕ} {t : Taker} {queue : List Order} → MeetsQueue x o l terms own t queue →
@@ -145,14 +145,15 @@ module _ {s : State} {buys sells trades : List ℕ} (w : WellFormedState s buys 
 
     -- 8
     module _ {own₁ : List ℕ} {count : ℕ} (ea : own₁ ≡ side_area o.sell buys sells) (ec : count ≡ side_count o.sell s place) where
-      pub own_room : (count ≤ max_resting) × (first_word place count ≤ length own₁)
-      own_room =
-          let r = side_room m f c p.contract o.sell in
-          rw (ec, ea, is) (r.few, r.room)
+      pub own_room : first_word place count ≤ length own₁
+      own_room = rw (ec, ea, is) (side_room m f c p.contract o.sell)
 
-      module _ {owner mark₁ rested : ℕ} (mine : owner ≡ place_of o.account) (em : mark₁ ≡ mark o.close) (er : rested ≡ resting mark₁ owner (queue_in own₁ place count)) where
+      pub own_few : length (queue_in own₁ place count) ≤ max_resting
+      own_few = rw (ec, ea, is) (side_few m f c p.contract o.sell)
+
+      module _ {owner mark₁ rested : ℕ} (mine : owner ≡ place_of o.account) (em : mark₁ ≡ mark o.close) {queue : List Order} (eq : queue ≡ queue_in own₁ place count) (er : rested ≡ resting mark₁ owner queue) where
         rested_is : rested ≡ resting (mark o.close) (place_of o.account) (queue_in (side_area o.sell buys sells) c (side_count o.sell s c))
-        rested_is = er ∙ rw (mine, em, ec, ea, is)
+        rested_is = er ∙ rw (eq, mine, em, ec, ea, is)
 
         pub rested_low : rested ≤ max_limit
         rested_low = rw rested_is (resting_low m f c p.contract (place_of o.account) p.account o.sell o.close)
@@ -164,44 +165,51 @@ module _ {s : State} {buys sells trades : List ℕ} (w : WellFormedState s buys 
 
     -- 10 to 13, against the opposite queue
     module _ {area : List ℕ} {count : ℕ} (ea : area ≡ side_area (not o.sell) buys sells) (ec : count ≡ side_count (not o.sell) s place) where
-      pub opposite_room : QueueRoom area (place_of o.contract) count
+      pub opposite_room : first_word place count ≤ length area
       opposite_room = rw (ec, ea, is) (side_room m f c p.contract (not o.sell))
 
-      module _ (number : ℕ) {t : Taker} (et : t ≡ taker_for number 0 s.nextstamp terms (queue_in area (place_of o.contract) count) o) where
-        pub facing : Facing t area place count
-        facing = rw (et, ec, ea, is) (opposite_facing m f c p.contract number 0 s.nextstamp _ o)
+      module _ {queue : List Order} (eq : queue ≡ queue_in area place count) where
+        opposite_is_lem : queue ≡ queue_in (side_area (not o.sell) buys sells) c (side_count (not o.sell) s c)
+        opposite_is_lem = eq ∙ rw (ec, ea, is)
 
-        opposite_queue_lem : opposite_queue x o ≡ queue_in area place count
+        pub few : length queue ≤ max_resting
+        few = rw opposite_is_lem (side_few m f c p.contract (not o.sell))
+
+        opposite_queue_lem : opposite_queue x o ≡ queue
         unfolding listing_of
-        opposite_queue_lem = rw (ec, ea, is) (opposite_is m f c p.contract o.sell)
+        opposite_queue_lem = rw opposite_is_lem (opposite_is m f c p.contract o.sell)
 
-        taker_is : taker_of x number 0 o ≡ t
-        unfolding taker_of exchange_of
-        taker_is = rw (et, opposite_queue_lem, terms_is, is) refl
+        module _ (number : ℕ) {t : Taker} (et : t ≡ taker_for number 0 s.nextstamp terms queue o) where
+          pub facing : Facing t queue
+          facing = rw (et, opposite_is_lem) (opposite_facing m f c p.contract number 0 s.nextstamp _ o)
 
-        -- 12 with that number
-        pub trades_are : {r : Bool} → r ≡ no_room_for s.tradecount (trades_against terms t o.lots (queue_in area place count)) → r ≡ trades_refused x number o
-        unfolding trades_refused trades_needed
-        trades_are er = er ∙ rw (trades_count m f, opposite_queue_lem, taker_is, terms_is) refl
+          taker_is : taker_of x number 0 o ≡ t
+          unfolding taker_of exchange_of
+          taker_is = rw (et, opposite_queue_lem, terms_is, is) refl
 
-      -- the number and the time stamp, read with the contract
-      pub taker_here : {l : Listed} → l ≡ listed_in s place → {t : Taker} (queue : List Order) → t ≡ taker_for l.next 0 l.nextstamp terms queue o → t ≡ taker_for s.next 0 s.nextstamp terms queue o
-      taker_here el queue et = et ∙ rw el refl
+          -- 12 with that number
+          pub trades_are : {r : Bool} → r ≡ no_room_for s.tradecount (trades_against terms t o.lots queue) → r ≡ trades_refused x number o
+          unfolding trades_refused trades_needed
+          trades_are er = er ∙ rw (trades_count m f, opposite_queue_lem, taker_is, terms_is) refl
 
-      pub meets : {l : Listed} → l ≡ listed_in s place → {t : Taker} → t ≡ taker_for s.next 0 s.nextstamp terms (queue_in area (place_of o.contract) count) o
-          → {own₁ : ℕ} → own₁ ≡ side_count o.sell s place → MeetsQueue x o l terms own₁ t (queue_in area place count)
-      unfolding exchange_of
-      meets el et eo =
-          rw el
-          (record {
-            next = refl;
-            nextstamp = refl;
-            recorded = trades_count m f;
-            contract = terms_is;
-            own_side = own_length eo;
-            opposite_side = opposite_queue_lem s.next et;
-            taker = taker_is s.next et;
-          })
-        where
-          own_length : {own₁ : ℕ} → own₁ ≡ side_count o.sell s place → length (own_queue x o) ≡ own₁
-          own_length eo = unfold listing_of in rw (eo, is, side_is m f c p.contract o.sell, length_queue) refl
+        -- the number and the time stamp, read with the contract
+        pub taker_here : {l : Listed} → l ≡ listed_in s place → {t : Taker} → t ≡ taker_for l.next 0 l.nextstamp terms queue o → t ≡ taker_for s.next 0 s.nextstamp terms queue o
+        taker_here el et = et ∙ rw el refl
+
+        pub meets : {l : Listed} → l ≡ listed_in s place → {t : Taker} → t ≡ taker_for s.next 0 s.nextstamp terms queue o
+            → {own₁ : ℕ} → own₁ ≡ side_count o.sell s place → MeetsQueue x o l terms own₁ t queue
+        unfolding exchange_of
+        meets el et eo =
+            rw el
+            (record {
+              next = refl;
+              nextstamp = refl;
+              recorded = trades_count m f;
+              contract = terms_is;
+              own_side = own_length eo;
+              opposite_side = opposite_queue_lem;
+              taker = taker_is s.next et;
+            })
+          where
+            own_length : {own₁ : ℕ} → own₁ ≡ side_count o.sell s place → length (own_queue x o) ≡ own₁
+            own_length eo = unfold listing_of in rw (eo, is, side_is m f c p.contract o.sell, length_queue) refl

@@ -1,7 +1,6 @@
 -- The laws that the proofs of this crate apply. Assumes nothing.
 pub mod Affording
 pub mod Arrivals
-pub mod Conditions
 pub mod Inserting
 pub mod Sides
 pub mod Reentering

@@ -20,7 +20,7 @@ use Rattle.theory.proofs.Terms.{terms, terms_passed}
 use Rattle.holdings.specs.Bounds.{HoldingWithin, held_most}
 use Rattle.invariants.proofs.Clauses.{HoldingOk, ListingOk, order_ok}
 use Rattle.engine.specs.Sides.{side_area, side_count}
-use Rattle.refusals.specs.Insertion.{Facing, QueueRoom}
+use Rattle.refusals.specs.Insertion.{Facing}
 use Rattle.engine.proofs.Formed.{Formed, accounts_count, contracts_count, holding_at_lem, listing_at_lem}
 
 module _ (m : Memory) (f : Formed m) (c : ℕ) (h : c < m.state.contractcount) where
@@ -41,9 +41,13 @@ module _ (m : Memory) (f : Formed m) (c : ℕ) (h : c < m.state.contractcount) w
   opposite_is true = side_is false
   opposite_is false = side_is true
 
-  pub side_room : (side : Bool) → QueueRoom (side_area side m.buys m.sells) c (side_count side m.state c)
-  side_room true = record { few = f.sells_high c h; room = omega (arith, f.sells_high c h, f.sells_room) }
-  side_room false = record { few = f.buys_high c h; room = omega (arith, f.buys_high c h, f.buys_room) }
+  pub side_room : (side : Bool) → first_word c (side_count side m.state c) ≤ length (side_area side m.buys m.sells)
+  side_room true = omega (arith, f.sells_high c h, f.sells_room)
+  side_room false = omega (arith, f.buys_high c h, f.buys_room)
+
+  pub side_few : (side : Bool) → length (queue_of side) ≤ max_resting
+  side_few true = rw length_queue (f.sells_high c h)
+  side_few false = rw length_queue (f.buys_high c h)
 
   -- room for 64 orders
   pub side_long : (side : Bool) → first_word c max_resting ≤ length (side_area side m.buys m.sells)
@@ -60,8 +64,8 @@ module _ (m : Memory) (f : Formed m) (c : ℕ) (h : c < m.state.contractcount) w
   side_sorted side = rw (← side_is side) (listing.order side)
 
   -- an order meets the queue opposite it, best price first
-  pub opposite_facing : (number quote stamp : ℕ) (terms : Contract) (o : NewOrder) → Facing (taker_for number quote stamp terms (queue_of (not o.sell)) o) (side_area (not o.sell) m.buys m.sells) c (side_count (not o.sell) m.state c)
-  opposite_facing number quote stamp terms o = record { queue = side_room (not o.sell); order = side_sorted (not o.sell); best = refl }
+  pub opposite_facing : (number quote stamp : ℕ) (terms : Contract) (o : NewOrder) → Facing (taker_for number quote stamp terms (queue_of (not o.sell)) o) (queue_of (not o.sell))
+  opposite_facing number quote stamp terms o = record { few = side_few (not o.sell); order = side_sorted (not o.sell); best = refl }
 
   pub side_account : (side : Bool) (i : ℕ) → i < side_count side m.state c → (get_or (queue_of side) i no_order).account < m.state.accountcount
   side_account side i l =

@@ -3,7 +3,6 @@ use Rattle.std.specs.Prelude.{true, false, not, List, ◌≡◌, ℕ, ◌<◌, �
 use Rattle.rules.specs.Answers.{listing_of, named_refusals, not_continuous, opposite_queue, own_queue, taker_of}
 use Rattle.rules.specs.Bounds.{max_resting}
 use Rattle.rules.specs.Exchange.{Exchange, best_price, is_absent, place_of}
-use Rattle.rules.specs.Memory.{queue_in, first_word}
 use Rattle.rules.specs.WellFormed.{sorted}
 use Rattle.rules.specs.declared.Contract.{Contract}
 use Rattle.rules.specs.declared.NewOrder.{NewOrder}
@@ -13,16 +12,11 @@ use Rattle.rules.specs.declared.Taker.{Taker}
 use Rattle.engine.specs.Outcome.{CodeIn}
 use Rattle.engine.specs.declared.updates.Listed.{Listed}
 
--- a queue of at most 64 orders, with room in its area
-pub record QueueRoom (area : List ℕ) (c count : ℕ) : Type 0 where
-  pub few : count ≤ max_resting
-  pub room : first_word c count ≤ length area
-
 -- an arriving order and the opposite queue, best price first
-pub record Facing (t : Taker) (area : List ℕ) (c count : ℕ) : Type 0 where
-  pub queue : QueueRoom area c count
-  pub order : sorted (not t.sell) (queue_in area c count) ≡ true
-  pub best : t.best ≡ best_price (queue_in area c count)
+pub record Facing (t : Taker) (queue : List Order) : Type 0 where
+  pub few : length queue ≤ max_resting
+  pub order : sorted (not t.sell) queue ≡ true
+  pub best : t.best ≡ best_price queue
 
 -- an exchange in which the order meets that queue so: what 10 to 13 read of it
 pub record MeetsQueue (x : Exchange) (o : NewOrder) (l : Listed) (terms : Contract) (own : ℕ) (t : Taker) (queue : List Order) : Type 0 where

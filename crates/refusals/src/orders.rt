@@ -6,41 +6,28 @@ ghost use Rattle.laws.specs.Choice.{pick};
 ghost use Rattle.rules.specs.Answers as answer;
 ghost use Rattle.rules.specs.Exchange as exchange;
 ghost use Rattle.rules.specs.Matching.{method_of};
-ghost use Rattle.rules.specs.Memory.{queue_in};
 ghost use Rattle.rules.specs.Step.{limit_of};
 ghost use Rattle.engine.specs.Sides.{side_area, side_count};
-ghost use Rattle.refusals.specs.Insertion.{QueueRoom};
 
+use book::orders::Queue;
 use rules::{Contract, NewOrder, PairingMethod, PriceCondition, State, Taker, TimeCondition};
 
 pub fn is_limit(condition: PriceCondition) -> bool
     ensures { result ≡ answer.is_limit condition }
 {
-    match condition {
-        PriceCondition::Limit(_) => true,
-        PriceCondition::Market => false,
-        PriceCondition::Best => false,
-    }
+    matches!(condition, PriceCondition::Limit(_))
 }
 
 pub fn is_day(time: TimeCondition) -> bool
     ensures { result ≡ answer.is_good_for_day time }
 {
-    match time {
-        TimeCondition::GoodForDay => true,
-        TimeCondition::ImmediateOrCancel => false,
-        TimeCondition::FillOrKill => false,
-    }
+    time == TimeCondition::GoodForDay
 }
 
 pub fn is_kill(time: TimeCondition) -> bool
     ensures { result ≡ answer.is_fill_or_kill time }
 {
-    match time {
-        TimeCondition::GoodForDay => false,
-        TimeCondition::ImmediateOrCancel => false,
-        TimeCondition::FillOrKill => true,
-    }
+    time == TimeCondition::FillOrKill
 }
 
 // A limit order rests at its limit; market and best never rest.
@@ -49,8 +36,7 @@ pub fn limit_of(condition: PriceCondition) -> u32
 {
     match condition {
         PriceCondition::Limit(limit) => limit,
-        PriceCondition::Market => 0,
-        PriceCondition::Best => 0,
+        PriceCondition::Market | PriceCondition::Best => 0,
     }
 }
 
@@ -58,11 +44,11 @@ pub fn limit_of(condition: PriceCondition) -> u32
 pub fn mark(close: bool) -> u32
     ensures { result ≡ answer.mark close }
 {
-    if close { 1 } else { 0 }
+    u32::from(close)
 }
 
-// One of two numbers, by the order's side.
-pub fn by_side(sell: bool, selling: u32, buying: u32) -> u32
+// One of two values, by the order's side.
+pub fn by_side<T: Copy>(sell: bool, selling: T, buying: T) -> T
     ensures { result ≡ pick sell selling buying }
 {
     if sell { selling } else { buying }
@@ -95,48 +81,41 @@ pub fn day_limit(
 pub fn side_area<'a>(sell: bool, buys: &'a [u32], sells: &'a [u32]) -> &'a [u32]
     ensures { result.now ≡ side_area sell buys.now sells.now }
 {
-    if sell {
-        return sells;
-    }
-    buys
+    if sell { sells } else { buys }
 }
 
 // How many orders rest on a side of the contract at a place.
-pub fn side_count(sell: bool, state: State, c: usize) -> usize
+pub fn side_count(sell: bool, state: &State, c: usize) -> usize
     requires { c < max_contracts }
-    ensures { result ≡ side_count sell state c }
+    ensures { result ≡ side_count sell state.now c }
 {
-    let buycounts = state.buycounts;
-    let sellcounts = state.sellcounts;
     if sell {
-        return sellcounts[c];
+        state.sellcounts[c]
+    } else {
+        state.buycounts[c]
     }
-    buycounts[c]
 }
 
 // The best price of a queue, 0 where it is empty.
-fn best_price(area: &[u32], c: usize, count: usize) -> u32
-    requires { QueueRoom area.now c count }
-    ensures { result ≡ exchange.best_price (queue_in area.now c count) }
+fn best_price(queue: &Queue<'_>) -> u32
+    ensures { result ≡ exchange.best_price queue.now }
 {
-    if count == 0 {
-        return 0;
+    match queue.best() {
+        Some(o) => o.price,
+        None => 0,
     }
-    let o = book::queue::order_at(area, c, 0);
-    o.price
 }
 
 // The pairing method that the contract's terms name.
+#[tactic(auto, unfolding(rules::specs::Matching::method_of))]
 fn method_of(terms: Contract) -> PairingMethod
     ensures { result ≡ method_of terms }
 {
-    if terms.method == 0 {
-        return PairingMethod::Middle;
+    match terms.method {
+        0 => PairingMethod::Middle,
+        1 => PairingMethod::Average(terms.tick),
+        _ => PairingMethod::FirstIn,
     }
-    if terms.method == 1 {
-        return PairingMethod::Average(terms.tick);
-    }
-    PairingMethod::FirstIn
 }
 
 // The order with its number, the quote mark and the time stamp it gets, its contract's pairing method and the best opposite price
@@ -146,17 +125,12 @@ pub fn taker_of(
     quote: u32,
     stamp: u32,
     terms: Contract,
-    area: &[u32],
-    count: usize,
+    queue: &Queue<'_>,
     o: NewOrder,
 ) -> Taker
-    requires { (1 ≤ o.account) × (1 ≤ o.contract) × QueueRoom area.now (exchange.place_of o.contract) count }
-    ensures { result ≡ answer.taker_for number quote stamp terms (queue_in area.now (exchange.place_of o.contract) count) o }
+    requires { (1 ≤ o.account) × (1 ≤ o.contract) }
+    ensures { result ≡ answer.taker_for number quote stamp terms queue.now o }
 {
-    let c = laws::place_of(o.contract);
-    let best = best_price(area, c, count);
-    let condition = o.condition;
-    let method = method_of(terms);
     Taker {
         account: laws::place_word(o.account),
         contract: laws::place_word(o.contract),
@@ -165,8 +139,8 @@ pub fn taker_of(
         number,
         stamp,
         quote,
-        condition,
-        method,
-        best,
+        condition: o.condition,
+        method: method_of(terms),
+        best: best_price(queue),
     }
 }

@@ -1,5 +1,6 @@
 -- The replay of a day's trades over accounts: what a loop over the trades keeps, and what it answers. Assumes nothing.
-use Rattle.laws.specs.Logic.{Bool, true, false, ◌&&◌, false≢true, List, [], ◌∷◌, ◌≡◌, refl, sym, ap, subst, ◌∙◌}
+use Rattle.std.specs.Prelude.{Some, None}
+use Rattle.laws.specs.Logic.{Bool, true, false, ◌&&◌, List, [], ◌∷◌, ◌≡◌, refl, sym, ap, subst, ◌∙◌}
 use Rattle.laws.specs.Numbers.{ℕ, zero, suc, ◌+◌, ◌-◌, ◌*◌, ◌<◌, ◌≤◌, arith, eqb, length, get_or, set, drop, length-set}
 use Rattle.laws.specs.Choice.{pick}
 use Rattle.rules.specs.Bounds.{max_trades}
@@ -118,8 +119,8 @@ module _ (list : List Account) (k n : ℕ) (area : List ℕ) (count : ℕ) where
     pub whole : book_trades list day ≡ book_trades (book_seller held t) (drop (i + 1) day)
 
   -- a close of more than is held
-  below_zero : never_below_zero started day ≡ false → ReplayIs list k n area count (record { accounts = list; covered = false })
-  below_zero e = record { covered = sym e; accounts_are = refl; held = λ t. absurd (false≢true t) }
+  below_zero : never_below_zero started day ≡ false → ReplayIs list k n area count None
+  below_zero e = record { covered = sym e; accounts_are = tt; held = tt }
 
 module _ {list : List Account} {k n : ℕ} {area : List ℕ} {count : ℕ} where
   -- before the first trade
@@ -144,7 +145,7 @@ module _ {list : List Account} {k n : ℕ} {area : List ℕ} {count : ℕ} where
     buyer_read = leg_read k n held ea ec b.buyer held_room b.contract false t.buyclose t.lots
 
     -- his close is not covered
-    pub buyer_short : buyer_test ≡ false → ReplayIs list k n area count (record { accounts = list; covered = false })
+    pub buyer_short : buyer_test ≡ false → ReplayIs list k n area count None
     unfolding never_below_zero
     buyer_short s =
         let off : leg_covered (used k n held) t.buyer t.contract false t.buyclose t.lots ≡ false = sym buyer_read ∙ s in
@@ -184,7 +185,7 @@ module _ {list : List Account} {k n : ℕ} {area : List ℕ} {count : ℕ} where
     seller_read : seller_test ≡ leg_covered (used k n held) t.seller t.contract true t.sellclose t.lots
     seller_read = leg_read k n held ea ec g.trade.seller still_room g.trade.contract true t.sellclose t.lots
 
-    pub seller_short : seller_test ≡ false → ReplayIs list k n area count (record { accounts = list; covered = false })
+    pub seller_short : seller_test ≡ false → ReplayIs list k n area count None
     seller_short s =
         let off : leg_covered (used k n held) t.seller t.contract true t.sellclose t.lots ≡ false = sym seller_read ∙ s in
         below_zero list k n area count (g.covered ∙ rw off)
@@ -212,14 +213,14 @@ module _ {list : List Account} {k n : ℕ} {area : List ℕ} {count : ℕ} where
 
   -- after the last trade
   pub all_covered : {held : List Account} {i : ℕ} → Going list k n area count held i → count ≤ i
-      → ReplayIs list k n area count (record { accounts = held; covered = true })
+      → ReplayIs list k n area count (Some held)
   unfolding never_below_zero book_trades
   all_covered {held} {i} g h =
       let none : drop i (recorded_trades area count) ≡ [] = no_trades area count i h in
       record {
         covered = sym (g.covered ∙ ap (never_below_zero (used k n held)) none);
         accounts_are = sym (g.whole ∙ ap (book_trades held) none);
-        held = λ t. sym (g.booked ∙ ap (book_trades (used k n held)) none);
+        held = sym (g.booked ∙ ap (book_trades (used k n held)) none);
       }
 
 -- a trade read from its place is the one that was tested there

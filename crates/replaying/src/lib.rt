@@ -10,63 +10,42 @@ ghost use Rattle.replaying.specs.Parts.{Replayable, ReplayIs};
 use book::trades;
 use rules::Account;
 
-// What the accounts hold afterwards, and whether each close found its lots; where one did not, the accounts are those given.
-#[derive(Clone, Copy)]
-pub struct Held {
-    pub accounts: [Account; rules::MAX_ACCOUNTS],
-    pub covered: bool,
-}
-
 // A close of no more than is held.
+#[tactic(auto, unfolding(rules::specs::Holdings::leg_covered, rules::specs::Exchange::holding_at, rules::specs::Exchange::account_at))]
 fn is_covered(a: Account, c: usize, sell: bool, close: u32, lots: u32) -> bool
     requires { c < max_contracts }
     ensures { result ≡ leg_covered (a ∷ []) 0 c sell close lots }
 {
-    if close == 0 {
-        return true;
-    }
     let h = a.holdings[c];
-    if sell {
-        return lots <= h.long;
-    }
-    lots <= h.short
+    let held = if sell { h.long } else { h.short };
+    close == 0 || lots <= held
 }
 
+// The accounts after the trades, and none where a close does not find its lots.
 pub fn replay(
     accounts: [Account; rules::MAX_ACCOUNTS],
     contracts: usize,
     accountcount: usize,
     area: &[u32],
     count: usize,
-) -> Held
+) -> Option<[Account; rules::MAX_ACCOUNTS]>
     requires { Replayable accounts contracts accountcount area.now count }
     ensures { ReplayIs accounts contracts accountcount area.now count result }
 {
     let mut held = accounts;
-    let mut i: usize = 0;
-    while i < count {
+    for i in 0..count {
         let t = trades::trade_at(area, i);
-        let c = laws::wide(t.contract);
-        let buyer = laws::wide(t.buyer);
+        let c = t.contract as usize;
+        let buyer = t.buyer as usize;
         if !is_covered(held[buyer], c, false, t.buyclose, t.lots) {
-            return Held {
-                accounts,
-                covered: false,
-            };
+            return None;
         }
         held[buyer] = holdings::book_leg(held[buyer], c, false, t.buyclose, t.lots);
-        let seller = laws::wide(t.seller);
+        let seller = t.seller as usize;
         if !is_covered(held[seller], c, true, t.sellclose, t.lots) {
-            return Held {
-                accounts,
-                covered: false,
-            };
+            return None;
         }
         held[seller] = holdings::book_leg(held[seller], c, true, t.sellclose, t.lots);
-        i += 1;
     }
-    Held {
-        accounts: held,
-        covered: true,
-    }
+    Some(held)
 }

@@ -9,6 +9,7 @@ pub mod Auction
 pub mod Margin
 pub mod Settlement
 pub mod Article32
+pub mod Codes
 pub mod Answers
 pub mod Step
 pub mod Change

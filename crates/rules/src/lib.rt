@@ -3,10 +3,12 @@
 // A place counts from 0, a number from 1: the account with number 1 stands at place 0. Commands and printed lines speak
 // of numbers, the records below of places, except where they say "number".
 //
-// A record with `#[repr(C)]` lies in memory as a C compiler lays it out: programs in other languages hand it in as it is.
+// A record with `#[repr(C)]` lies in memory as a C compiler lays it out: programs in other languages hand it in as it is, with whatever
+// numbers they have in it. So a phase, a pairing method and a mark stay numbers in these records, and no enum or bool.
 
 #![tactic(auto)]
 
+pub mod codes;
 pub mod sizes;
 
 // "Numbers that bound everything", by the names that they have in specs/ (Bounds, Memory, DayFile).
@@ -73,10 +75,10 @@ pub const NUMBER_WORD: usize = 1;
 pub const STAMP_WORD: usize = 5;
 
 // A contract's terms for the day, with the number of its pairing method, its phase (the paper's contract state) and its last
-// price. Rate and method are as wide as in the day file: four contracts then take 128 bytes, which a compiler still copies in
+// price. Both numbers are the C interface's. Rate and method are as wide as in the day file: four contracts then take 128 bytes, which a compiler still copies in
 // place.
 #[repr(C)]
-#[derive(Clone, Copy)]
+#[derive(Clone, Copy, PartialEq, Eq, Default)]
 pub struct Contract {
     pub multiplier: u32,
     pub tick: u32,
@@ -104,7 +106,7 @@ pub const MAX_PHASE: u32 = AUCTION;
 
 // What one account holds in one contract: lots now, and lots at the start of the day.
 #[repr(C)]
-#[derive(Clone, Copy)]
+#[derive(Clone, Copy, PartialEq, Eq, Default)]
 pub struct Holding {
     pub long: u32,
     pub short: u32,
@@ -112,9 +114,9 @@ pub struct Holding {
     pub startshort: u32,
 }
 
-// `maker` is 1 for a market maker and 0 for others.
+// `maker` is 1 for a market maker and 0 for others, as the C interface has it.
 #[repr(C)]
-#[derive(Clone, Copy)]
+#[derive(Clone, Copy, PartialEq, Eq, Default)]
 pub struct Account {
     pub balance: i64,
     pub holdings: [Holding; MAX_CONTRACTS],
@@ -122,9 +124,9 @@ pub struct Account {
 }
 
 // A resting order: its remaining lots, the account's place, 1 for a close and 0 for an open, its time stamp, 1 where it is part of
-// a quote and 0 elsewhere.
+// a quote and 0 elsewhere: each a word of the lent area.
 #[repr(C)]
-#[derive(Clone, Copy)]
+#[derive(Clone, Copy, PartialEq, Eq, Default)]
 pub struct Order {
     pub price: u32,
     pub number: u32,
@@ -136,9 +138,9 @@ pub struct Order {
 }
 
 // A trade: the contract's place, the two orders' numbers, the two accounts' places, and for each leg 1 for a close and 0
-// for an open.
+// for an open: each a word of the lent area.
 #[repr(C)]
-#[derive(Clone, Copy)]
+#[derive(Clone, Copy, PartialEq, Eq, Default)]
 pub struct Trade {
     pub contract: u32,
     pub price: u32,
@@ -155,7 +157,7 @@ pub struct Trade {
 // how many of each are in use: orders by contract, contracts, accounts, trades of the day. `next` is the next order number,
 // `nextstamp` the next time stamp.
 #[repr(C)]
-#[derive(Clone, Copy)]
+#[derive(Clone, Copy, PartialEq, Eq, Default)]
 pub struct State {
     pub contracts: [Contract; MAX_CONTRACTS],
     pub accounts: [Account; MAX_ACCOUNTS],
@@ -169,9 +171,9 @@ pub struct State {
     pub settlements: u32,
 }
 
-// A command's 24 bytes, field by field.
+// A command's 24 bytes, field by field, whatever they hold: `command_of` reads the kind and the flags.
 #[repr(C)]
-#[derive(Clone, Copy)]
+#[derive(Clone, Copy, PartialEq, Eq, Default)]
 pub struct Record {
     pub kind: u8,
     pub account: u8,
@@ -184,7 +186,7 @@ pub struct Record {
 }
 
 // "An order carries one of three price conditions": limit holds its price, market and best hold none.
-#[derive(Clone, Copy)]
+#[derive(Clone, Copy, PartialEq, Eq)]
 pub enum PriceCondition {
     Limit(u32),
     Market,
@@ -192,14 +194,14 @@ pub enum PriceCondition {
 }
 
 // "0 middle price, 1 average, 2 first-in price": the average holds the tick that it is rounded down to.
-#[derive(Clone, Copy)]
+#[derive(Clone, Copy, PartialEq, Eq)]
 pub enum PairingMethod {
     Middle,
     Average(u32),
     FirstIn,
 }
 
-#[derive(Clone, Copy)]
+#[derive(Clone, Copy, PartialEq, Eq)]
 pub enum TimeCondition {
     GoodForDay,
     ImmediateOrCancel,
@@ -207,7 +209,7 @@ pub enum TimeCondition {
 }
 
 // An order as it is sent in. Its price field stays beside the price condition: code 7 looks at it after code 1.
-#[derive(Clone, Copy)]
+#[derive(Clone, Copy, PartialEq, Eq)]
 pub struct NewOrder {
     pub account: u32,
     pub contract: u32,
@@ -220,7 +222,7 @@ pub struct NewOrder {
 }
 
 // A command as it is understood; account and contract are numbers as given.
-#[derive(Clone, Copy)]
+#[derive(Clone, Copy, PartialEq, Eq)]
 pub enum Command {
     Malformed,
     Deposit {
@@ -265,8 +267,9 @@ pub enum Command {
 }
 
 // An accepted order as it meets the book: account and contract by place, its number, the time stamp and the quote mark that it gets, its
-// contract's pairing method, and the best opposite price standing on its arrival (0 where the opposite side is empty).
-#[derive(Clone, Copy)]
+// contract's pairing method, and the best opposite price standing on its arrival (0 where the opposite side is empty). Its marks are
+// numbers, as in the order that rests of it (definition `taker_for`).
+#[derive(Clone, Copy, PartialEq, Eq)]
 pub struct Taker {
     pub account: u32,
     pub contract: u32,
@@ -283,7 +286,7 @@ pub struct Taker {
 // "Each answer holds a code, an order number, lots traded and lots rested (insert; a vanished remainder isn't counted) or
 // removed (cancel, pull)."
 #[repr(C)]
-#[derive(Clone, Copy)]
+#[derive(Clone, Copy, PartialEq, Eq, Default)]
 pub struct Answer {
     pub code: u32,
     pub number: u32,

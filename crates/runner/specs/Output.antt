@@ -12,7 +12,6 @@ use Rattle.rules.specs.declared.Command.{Command}
 use Rattle.rules.specs.declared.State.{State}
 use Rattle.runner.specs.Parts.{part}
 use Rattle.runner.specs.Turns.{command_most}
-use Rattle.runner.specs.declared.output.Note.{Note}
 use Rattle.runner.specs.declared.output.Printed.{Printed}
 
 -- ---- what is still to be printed
@@ -95,5 +94,5 @@ Enough room = (input : List ℕ) → output (take room input) ≡ output input
 abbrev pub failed_note : List ℕ
 failed_note = 119 ∷ 114 ∷ 105 ∷ 116 ∷ 101 ∷ 32 ∷ 102 ∷ 97 ∷ 105 ∷ 108 ∷ 101 ∷ 100 ∷ newline ∷ []
 
-unfoldable pub note_of : Bool → Note
-note_of written = record { bytes = failed_note; length = pick written 0 (length failed_note) }
+unfoldable pub note_of : Bool → List ℕ
+note_of written = pick written [] failed_note

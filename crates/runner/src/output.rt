@@ -8,16 +8,17 @@ ghost use Rattle.runner.specs.Parts.{Playable};
 ghost use Rattle.runner.specs.Turns.{command_most};
 
 use crate::play::{COMMAND_MOST, play};
-use dayfile::file;
+use dayfile::file::{self, SoundFile};
 use lines::line::put_broken;
 use rules::State;
+use rules::codes::Code;
 
 // Room for one command's longest lines, and for the usual lines of some thousand more, so that a day takes few parts.
 pub const BUFFER: usize = 200000;
 
 // What a call printed: 0, or 21 where the state is not well formed, 29 where the buffer cannot hold the longest lines of one command;
 // nothing is printed then. `length` bytes from the buffer's start are the part. `next` is the place of the next command, from 0, and with
-// `state` goes into the next call, if there is more.
+// `state` goes into the next call, if there is more. The C interface needs the code's number and a flag.
 #[repr(C)]
 #[derive(Clone, Copy)]
 pub struct Printed {
@@ -45,10 +46,7 @@ fn nothing(code: u32, state: State, next: usize) -> Printed
 fn can_play(file: &[u8], state: State, buys: &[u32], sells: &[u32], trades: &[u32]) -> bool
     ensures { result ≡ not (sound file.now && not (well_formed_memory (memory state buys.now sells.now trades.now))) }
 {
-    if !file::sound(file) {
-        return true;
-    }
-    audit::well_formed(state, buys, sells, trades)
+    !file::sound(file) || audit::well_formed(state, buys, sells, trades)
 }
 
 // "A broken file prints `X 20`": one line, before all else, whatever the areas hold.
@@ -71,7 +69,7 @@ fn print_broken(file: &[u8], state: State, next: usize, out: &mut [u8]) -> Print
 
 // As many of a sound file's commands as surely fit, and their lines.
 fn print_sound(
-    file: &[u8],
+    file: &SoundFile<'_>,
     state: State,
     next: usize,
     buys: &mut [u32],
@@ -79,14 +77,14 @@ fn print_sound(
     trades: &mut [u32],
     out: &mut [u8],
 ) -> Printed
-    requires { Playable file.now 0 state buys.old sells.old trades.old out.old }
-    ensures { PartIs file.now next (memory state buys.old sells.old trades.old) out.old result (memory result.state buys.new sells.new trades.new) out.new }
+    requires { Playable file.now.bytes.now 0 state buys.old sells.old trades.old out.old }
+    ensures { PartIs file.now.bytes.now next (memory state buys.old sells.old trades.old) out.old result (memory result.state buys.new sells.new trades.new) out.new }
 {
     let n = file::commands_in(file);
     if n <= next {
         return nothing(0, state, next);
     }
-    let p = play(file, next, state, buys, sells, trades, out);
+    let p = play(file.bytes, next, state, buys, sells, trades, out);
     let left = p.state;
     Printed {
         code: 0,
@@ -111,46 +109,31 @@ pub fn lines(
     ensures { LinesIs file.now next (memory state buys.old sells.old trades.old) out.old result (memory result.state buys.new sells.new trades.new) out.new }
 {
     if !can_play(file, state, &buys[..], &sells[..], &trades[..]) {
-        return nothing(21, state, next);
+        return nothing(Code::StateNotWellFormed.number(), state, next);
     }
     if out.len() < COMMAND_MOST {
-        return nothing(29, state, next);
+        return nothing(Code::AreaTooShort.number(), state, next);
     }
-    if !file::sound(file) {
+    let Some(sound) = SoundFile::of(file) else {
         return print_broken(file, state, next, out);
-    }
-    print_sound(file, state, next, buys, sells, trades, out)
+    };
+    print_sound(&sound, state, next, buys, sells, trades, out)
 }
 
 // Whether the next part is to be asked for, when this one was written or not: behind a write that failed none is.
 pub fn goes_on(more: bool, written: bool) -> bool
     ensures { result ≡ (more && written) }
 {
-    if !more {
-        return false;
-    }
-    written
-}
-
-pub const NOTE_MOST: usize = 13;
-
-// So many of these bytes are said.
-#[derive(Clone, Copy)]
-pub struct Note {
-    pub bytes: [u8; NOTE_MOST],
-    pub length: usize,
+    more && written
 }
 
 // What is said on standard error of the last write: nothing where all was written, and otherwise that it failed.
-pub fn note_of(written: bool) -> Note
-    ensures { result ≡ note_of written }
+#[tactic(auto, unfolding(crate::specs::Output::note_of))]
+pub fn note_of(written: bool) -> &'static str
+    ensures { result.now ≡ note_of written }
 {
-    let bytes = *b"write failed\n";
     if written {
-        return Note { bytes, length: 0 };
+        return "";
     }
-    Note {
-        bytes,
-        length: NOTE_MOST,
-    }
+    "write failed\n"
 }

@@ -3,7 +3,7 @@ ghost use Rattle.rules.specs.Memory.{memory};
 ghost use Rattle.runner.specs.Parts.{Playable, PlayedIs};
 
 use crate::turn::play_record;
-use dayfile::file;
+use dayfile::file::{self, SoundFile};
 use lines::line;
 use rules::State;
 
@@ -24,7 +24,7 @@ pub struct Played {
 }
 
 // From command k on, as many as surely fit into `out`. It asks for a sound file, a well-formed state, and room for one
-// command.
+// command. It takes bytes, since docs/CLAIMS.md names it.
 pub fn play(
     file: &[u8],
     k: usize,
@@ -37,12 +37,12 @@ pub fn play(
     requires { Playable file.now k state buys.old sells.old trades.old out.old }
     ensures { PlayedIs file.now k (memory state buys.old sells.old trades.old) out.old result (memory result.state buys.new sells.new trades.new) out.new }
 {
-    let n = file::commands_in(file);
-    let first = file::first_command(file);
+    let sound = SoundFile { bytes: file };
+    let n = file::commands_in(&sound);
+    let first = file::first_command(&sound);
     let mut current = state;
-    let mut i = k;
-    let mut at: usize = 0;
-    while i < n {
+    let mut at = 0;
+    for i in k..n {
         if out.len() - at < COMMAND_MOST {
             return Played {
                 state: current,
@@ -50,15 +50,14 @@ pub fn play(
                 end: at,
             };
         }
-        let r = file::record_of(file, first, i);
+        let r = file::record_of(&sound, first, i);
         let t = play_record(current, buys, sells, trades, r, i as u64 + 1, out, at);
         current = t.state;
         at = t.end;
-        i += 1;
     }
     Played {
         state: current,
-        next: i,
+        next: n,
         end: at,
     }
 }

@@ -18,11 +18,9 @@ pub fn put_trades(out: &mut [u8], at: usize, area: &[u32], first: usize, count: 
     ensures { Written (trade_line_most * (count - first)) out.old at (trade_lines (first + 1) (drop first (recorded_trades area.now count))) out.new result }
 {
     let mut next = at;
-    let mut i = first;
-    while i < count {
+    for i in first..count {
         let trade = book::trades::trade_at(area, i);
         next = put_trade(out, next, i as u64 + 1, trade);
-        i += 1;
     }
     next
 }
@@ -33,10 +31,8 @@ pub fn put_prices(out: &mut [u8], at: usize, prices: [u32; rules::MAX_CONTRACTS]
     ensures { Written (price_line_most * n) out.old at (rows (price_row prices) n) out.new result }
 {
     let mut next = at;
-    let mut c: usize = 0;
-    while c < n {
+    for c in 0..n {
         next = put_price(out, next, c as u32, prices[c]);
-        c += 1;
     }
     next
 }
@@ -52,23 +48,17 @@ pub fn put_accounts(
     requires { (n ≤ max_accounts) × (at + account_line_most * n ≤ length out.old) }
     ensures { Written (account_line_most * n) out.old at (rows (account_row report.closing report.holding report.charged accounts) n) out.new result }
 {
-    let closing = report.closing;
-    let holding = report.holding;
-    let charged = report.charged;
     let mut next = at;
-    let mut a: usize = 0;
-    while a < n {
-        let account = accounts[a];
+    for a in 0..n {
         next = put_account(
             out,
             next,
             a as u32,
-            closing[a],
-            holding[a],
-            account.balance,
-            charged[a],
+            report.closing[a],
+            report.holding[a],
+            accounts[a].balance,
+            report.charged[a],
         );
-        a += 1;
     }
     next
 }

@@ -41,6 +41,7 @@ fn put_report(out: &mut [u8], at: usize, command: Command, response: Response) -
         return at;
     }
     let answer = response.answer;
+    // A number: the answer is a record of the C interface, which holds its code as one.
     if answer.code != 0 {
         return at;
     }

@@ -6,6 +6,7 @@ use Prim.Native.Nat.{ℕ, ◌+◌, ◌*◌, ◌≤◌, ◌<◌}
 use native.Mathlib.Omega.{arith}
 use lib.Dec.{eqb}
 use lib.ListN.{length, get_or, take}
+use Rattle.laws.specs.Numbers.{take_all}
 use borrow.Author.Tests.{eq-eqb, ne_eqb}
 use Rattle.laws.specs.Choice.{all, both_false, false_both}
 use Rattle.laws.specs.Sums.{sum_of, sum_of_more}
@@ -15,7 +16,7 @@ use Rattle.rules.specs.declared.State.{State}
 use Rattle.statefile.specs.StateFile.{totals_equal}
 use Rattle.saving.specs.Parts.{empty_pre_open_at, state_writable}
 
-module _ (list : List Account) (accounts c : ℕ) where
+module _ (list : List Account) (c : ℕ) where
   abbrev long_of : Account → ℕ
   long_of a = (get_or a.holdings c no_holding).long
 
@@ -24,7 +25,6 @@ module _ (list : List Account) (accounts c : ℕ) where
 
   -- the first a accounts are added up
   pub record Adding (long short a : ℕ) : Type 0 where
-    pub within : a ≤ accounts
     pub long_is : long ≡ sum_of long_of (take a list)
     pub short_is : short ≡ sum_of short_of (take a list)
     pub long_small : long ≤ 4_294_967_295 * a
@@ -32,25 +32,24 @@ module _ (list : List Account) (accounts c : ℕ) where
 
   pub adding_none : Adding 0 0 0
   unfolding sum_of
-  adding_none = record { within = omega arith; long_is = refl; short_is = refl; long_small = omega arith; short_small = omega arith }
+  adding_none = record { long_is = refl; short_is = refl; long_small = omega arith; short_small = omega arith }
 
-  pub adding_more : (long short a x y : ℕ) → accounts ≤ length list → a < accounts → Adding long short a
+  pub adding_more : {long short a x y : ℕ} → a < length list → Adding long short a
       → x ≡ long_of (get_or list a no_account) → y ≡ short_of (get_or list a no_account) → x ≤ 4_294_967_295 → y ≤ 4_294_967_295
       → Adding (long + x) (short + y) (a + 1)
-  adding_more long short a x y room l s e f p q =
+  adding_more {a = a} l s e f p q =
       record {
-        within = omega arith;
-        long_is = ap₂ (λ (u v : ℕ). u + v) s.long_is e ∙ sym (sum_of_more long_of list a no_account (omega arith));
-        short_is = ap₂ (λ (u v : ℕ). u + v) s.short_is f ∙ sym (sum_of_more short_of list a no_account (omega arith));
+        long_is = ap₂ (λ (u v : ℕ). u + v) s.long_is e ∙ sym (sum_of_more long_of list a no_account l);
+        short_is = ap₂ (λ (u v : ℕ). u + v) s.short_is f ∙ sym (sum_of_more short_of list a no_account l);
         long_small = omega (arith, s.long_small);
         short_small = omega (arith, s.short_small);
       }
 
-  pub adding_done : (long short a : ℕ) → accounts ≤ a → Adding long short a → eqb long short ≡ totals_equal (take accounts list) c
+  pub adding_done : {long short a : ℕ} → length list ≤ a → Adding long short a → eqb long short ≡ totals_equal list c
   unfolding totals_equal
-  adding_done long short a h s =
-      let e : a ≡ accounts = omega (arith, s.within) in
-      ap₂ eqb (s.long_is ∙ ap (λ (k : ℕ). sum_of long_of (take k list)) e) (s.short_is ∙ ap (λ (k : ℕ). sum_of short_of (take k list)) e)
+  adding_done {a = a} h s =
+      let e : take a list ≡ list = take_all a list h in
+      ap₂ eqb (s.long_is ∙ ap (sum_of long_of) e) (s.short_is ∙ ap (sum_of short_of) e)
 
 -- ---- a contract in pre-open without orders
 

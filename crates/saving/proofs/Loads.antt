@@ -32,6 +32,10 @@ pub record Given (m : Memory) (bs : List ℕ) (c a : ℕ) (next : State) : Type 
   pub marks : all (mark_sound bs) a ≡ true
   pub next_is : next ≡ loaded_state m.state (loaded_from bs)
 
+pub given : (m : Memory) {bytes bs : List ℕ} {c a : ℕ} {next : State} → bytes ≡ bs → shaped bs ≡ true → Laid bytes c a → Declared m.state → all (mark_sound bytes) a ≡ true
+    → next ≡ loaded_state m.state (loaded_from bytes) → Given m bs c a next
+given m e s l d k n = record { shape_is = s; laid = rw (← e) l; declared = d; marks = rw (← e) k; next_is = rw (← e) n }
+
 module _ (m : Memory) (bs : List ℕ) where
   unsound : saved_sound bs ≡ false → ReadIs m bs 20 m.state
   unfolding read_code first_of
@@ -41,12 +45,12 @@ module _ (m : Memory) (bs : List ℕ) where
   unfolding saved_sound
   misshapen_20 h = unsound (rw h)
 
-  marks_at : {c a : ℕ} → Laid bs c a → all (mark_sound bs) (saved_accounts_in bs) ≡ all (mark_sound bs) a
-  marks_at l = ap (all (mark_sound bs)) (sym l.accounts_are)
+  marks_at : {bytes : List ℕ} {c a : ℕ} → bytes ≡ bs → Laid bytes c a → all (mark_sound bs) (saved_accounts_in bs) ≡ all (mark_sound bytes) a
+  marks_at e l = rw (← e) (ap (all (mark_sound _)) (sym l.accounts_are))
 
-  pub marks_20 : {c a : ℕ} → shaped bs ≡ true → Laid bs c a → all (mark_sound bs) a ≡ false → ReadIs m bs 20 m.state
+  pub marks_20 : {bytes : List ℕ} {c a : ℕ} → bytes ≡ bs → shaped bs ≡ true → Laid bytes c a → all (mark_sound bytes) a ≡ false → ReadIs m bs 20 m.state
   unfolding saved_sound
-  marks_20 s l h = unsound (rw (s, marks_at l ∙ h))
+  marks_20 e s l h = unsound (rw (s, marks_at e l ∙ h))
 
 module _ {m : Memory} {bs : List ℕ} {c a : ℕ} {next : State} (g : Given m bs c a next) where
   its_loadable : Loadable (loaded_from bs)
@@ -89,7 +93,7 @@ module _ {m : Memory} {bs : List ℕ} {c a : ℕ} {next : State} (g : Given m bs
 
   pub formed_20 : well_formed_memory (in_spare next) ≡ false → ReadIs m bs 20 m.state
   unfolding saved_sound
-  formed_20 h = unsound m bs (rw (g.shape_is, marks_at m bs g.laid ∙ g.marks, sym spare_formed ∙ h))
+  formed_20 h = unsound m bs (rw (g.shape_is, marks_at m bs refl g.laid ∙ g.marks, sym spare_formed ∙ h))
 
   module _ (formed : well_formed_memory (in_spare next) ≡ true) where
     contents : well_formed_contents (loaded_from bs) ≡ true
@@ -97,7 +101,7 @@ module _ {m : Memory} {bs : List ℕ} {c a : ℕ} {next : State} (g : Given m bs
 
     sound : saved_sound bs ≡ true
     unfolding saved_sound
-    sound = rw (g.shape_is, marks_at m bs g.laid ∙ g.marks, contents)
+    sound = rw (g.shape_is, marks_at m bs refl g.laid ∙ g.marks, contents)
 
     -- ---- the totals of the accounts as they lie
 

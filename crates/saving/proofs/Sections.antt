@@ -2,12 +2,14 @@
 use mathlib.Core.List.{List, [], ◌∷◌, ◌++◌}
 use mathlib.Core.Path.{◌≡◌, refl, ap, ◌∙◌}
 use Prim.Native.Nat.{ℕ, ◌+◌, ◌*◌, ◌≤◌}
+use Rattle.laws.specs.Numbers.{take, get_or-take, length-take-le}
 use native.Mathlib.Nat.{mul-le-mul}
 use native.Mathlib.Omega.{arith}
 use lib.ListN.{length, length-append}
 use Rattle.areas.specs.Lists.{over}
 use Rattle.rules.specs.Bounds.{max_accounts, max_contracts}
 use Rattle.rules.specs.DayFile.{count_width}
+use Rattle.rules.specs.Exchange.{no_account, no_contract}
 use Rattle.rules.specs.declared.Account.{Account}
 use Rattle.rules.specs.declared.Contract.{Contract}
 use Rattle.rules.specs.declared.State.{State}
@@ -15,7 +17,7 @@ use Rattle.endian.specs.Written.{Written}
 use Rattle.endian.proofs.Writes.{then, length_four}
 use Rattle.endian.specs.Numbers.{two, four, eight, unsigned}
 use Rattle.sections.specs.Sections.{section}
-use Rattle.sections.proofs.Rows.{exact}
+use Rattle.sections.proofs.Rows.{exact, row_ext}
 use Rattle.statefile.specs.StateFile.{account_bytes, contract_bytes, balance_width, mark_width, price_width, saved_account_width, saved_contract_width, settlements_width}
 use Rattle.saving.specs.Parts.{account_section, contract_section, holding_section, state_bytes}
 
@@ -64,6 +66,16 @@ account_written a n m e f w v = rw (← e, ← f) (then w v)
 pub length_account : (a : Account) → length (account_bytes a) ≡ saved_account_width
 unfolding account_bytes eight four two
 length_account a = refl
+
+-- ---- the section of a list's first n places
+
+pub first_contracts : (list : List Contract) (n : ℕ) → n ≤ length list → contract_section (take n list) (length (take n list)) ≡ contract_section list n
+first_contracts list n h =
+    ap (contract_section (take n list)) (length-take-le n list h) ∙ ap (section n) (row_ext _ _ n (λ i l. ap contract_bytes (get_or-take n list i no_contract l)))
+
+pub first_accounts : (list : List Account) (n : ℕ) → n ≤ length list → account_section (take n list) (length (take n list)) ≡ account_section list n
+first_accounts list n h =
+    ap (account_section (take n list)) (length-take-le n list h) ∙ ap (section n) (row_ext _ _ n (λ i l. ap account_bytes (get_or-take n list i no_account l)))
 
 -- ---- the four sections of a state
 

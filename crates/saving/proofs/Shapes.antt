@@ -62,21 +62,20 @@ counts_decide bs l =
 
 -- ---- the counts as the code reads them
 
-module _ (bs : List ℕ) {c : ℕ} (ec : c ≡ count_before bs 4 4) where
-  pub no_contracts_lem : c ≡ 0 → false ≡ shaped bs
-  no_contracts_lem z = sym (misshapen bs (λ l. uncounted bs 4 4 ec z (omega (arith, l.ends)) (omega (arith, l.some_contract, contracts_read bs)) (omega (arith, l.few_contracts, contracts_read bs))))
+pub no_contracts_lem : (bs : List ℕ) → count_before bs 4 4 ≡ 0 → shaped bs ≡ false
+no_contracts_lem bs z = misshapen bs (λ l. uncounted bs 4 4 z (omega (arith, l.ends)) (omega (arith, l.some_contract, contracts_read bs)) (omega (arith, l.few_contracts, contracts_read bs)))
 
-  module _ (some : c ≡ 0 → ⊥) {end a : ℕ} (is : end ≡ 8 + 24 * c) (ea : a ≡ count_before bs end 32) where
-    count_there : u32_at bs (end - 4) ≡ saved_accounts_in bs
-    unfolding saved_accounts_in
-    count_there = ap (u32_at bs) (omega (arith, contracts_are bs ec some))
+module _ (bs : List ℕ) {c : ℕ} (ec : c ≡ count_before bs 4 4) (some : 1 ≤ c) {end : ℕ} (is : end ≡ 8 + 24 * c) where
+  count_there : u32_at bs (end - 4) ≡ saved_accounts_in bs
+  unfolding saved_accounts_in
+  count_there = ap (u32_at bs) (omega (arith, contracts_are bs ec some))
 
-    pub no_accounts_lem : a ≡ 0 → false ≡ shaped bs
-    no_accounts_lem z =
-        sym (misshapen bs (λ l. uncounted bs end 32 ea z (omega (arith, l.ends, contracts_are bs ec some)) (omega (arith, l.some_account, count_there)) (omega (arith, l.few_accounts, count_there))))
+  pub no_accounts_lem : count_before bs end 32 ≡ 0 → shaped bs ≡ false
+  no_accounts_lem z =
+      misshapen bs (λ l. uncounted bs end 32 z (omega (arith, l.ends, contracts_are bs ec some)) (omega (arith, l.some_account, count_there)) (omega (arith, l.few_accounts, count_there)))
 
-    pub accounts_are : (a ≡ 0 → ⊥) → a ≡ saved_accounts_in bs
-    accounts_are more = (counted bs end 32 ea more).is ∙ count_there
+  pub accounts_are : {a : ℕ} → a ≡ count_before bs end 32 → 1 ≤ a → a ≡ saved_accounts_in bs
+  accounts_are ea more = (counted bs end 32 ea more).is ∙ count_there
 
 -- ---- the tests in the order of the code, with what was read so far
 
@@ -84,42 +83,24 @@ module _ (bs : List ℕ) (c a n : ℕ) (e : c ≡ contracts_in bs) (f : a ≡ sa
   long_as : settlements_place (contracts_in bs) (saved_accounts_in bs) + settlements_width ≡ n
   long_as = rw (← e, ← f) (sym g)
 
-  pub length_wrong : (length bs ≡ n → ⊥) → false ≡ shaped bs
-  length_wrong d = sym (misshapen bs (λ l. d (l.ends ∙ long_as)))
+  pub length_wrong : (length bs ≡ n → ⊥) → shaped bs ≡ false
+  length_wrong d = misshapen bs (λ l. d (l.ends ∙ long_as))
 
   module _ (h : length bs ≡ n) (some_contract : 1 ≤ c) (few_contracts : c ≤ max_contracts) (some_account : 1 ≤ a) (few_accounts : a ≤ max_accounts) where
     pub laid : Laid bs c a
     laid = record { contracts_are = e; accounts_are = f; few_contracts = few_contracts; few_accounts = few_accounts; ends = h ∙ g }
 
-    pub decided : {r : Bool} → r ≡ counts_right bs → r ≡ shaped bs
+    pub decided : {r : Bool} → r ≡ counts_right bs → shaped bs ≡ r
     decided q =
-        q
-        ∙ sym (counts_decide bs
+        counts_decide bs
         (record {
           some_contract = omega (arith, e);
           few_contracts = omega (arith, e);
           some_account = omega (arith, f);
           few_accounts = omega (arith, f);
           ends = h ∙ sym long_as;
-        }))
-
--- a file that passed
-pub shaped_long : (bs : List ℕ) → shaped bs ≡ true → count_width ≤ length bs
-shaped_long bs h = omega (arith, (lengths bs h).ends)
-
-pub count_ready : (bs : List ℕ) (c : ℕ) → c ≡ contracts_in bs → shaped bs ≡ true → (c ≡ contracts_in bs) × (c ≤ max_contracts) × (2 * count_width + saved_contract_width * c ≤ length bs)
-count_ready bs c e h = let l = lengths bs h in (e, omega (arith, e, l.few_contracts), omega (arith, e, l.ends))
-
-pub shaped_laid : (bs : List ℕ) (c a : ℕ) → c ≡ contracts_in bs → a ≡ saved_accounts_in bs → shaped bs ≡ true → Laid bs c a
-shaped_laid bs c a e f h =
-    let l = lengths bs h in
-    record {
-      contracts_are = e;
-      accounts_are = f;
-      few_contracts = omega (arith, e, l.few_contracts);
-      few_accounts = omega (arith, f, l.few_accounts);
-      ends = rw (e, f) l.ends;
-    }
+        })
+        ∙ sym q
 
 module _ (bs : List ℕ) (c a : ℕ) (l : Laid bs c a) where
   holdings_place : 2 * count_width + saved_contract_width * c + saved_account_width * a ≡ saved_account_place (contracts_in bs) (saved_accounts_in bs)

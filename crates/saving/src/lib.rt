@@ -3,13 +3,15 @@
 #![tactic(auto)]
 
 ghost use Rattle.std.specs.Prelude.{◌≡◌};
+ghost use Rattle.rules.specs.Codes.{code_number};
 ghost use Rattle.rules.specs.Memory.{memory, well_formed_memory};
 ghost use Rattle.statefile.specs.StateFile.{WrittenIs, ReadIs};
 ghost use Rattle.saving.specs.Parts.{in_spare};
 
 use audit::counts::has_room;
-use dayfile::head::contract_count;
 use rules::State;
+use rules::codes::Code;
+use shape::SavedFile;
 
 mod loading;
 mod shape;
@@ -32,6 +34,15 @@ pub struct Loaded {
     pub state: State,
 }
 
+fn not_written(code: Code) -> Saved
+    ensures { result ≡ record { code = code_number code; length = 0 } }
+{
+    Saved {
+        code: code.number(),
+        length: 0,
+    }
+}
+
 // A call for users: it answers on anything.
 pub fn write_state(
     state: State,
@@ -43,23 +54,14 @@ pub fn write_state(
     ensures { WrittenIs (memory state buys.now sells.now trades.now) out.old result.code result.length out.new }
 {
     if !audit::well_formed(state, buys, sells, trades) {
-        return Saved {
-            code: 21,
-            length: 0,
-        };
+        return not_written(Code::StateNotWellFormed);
     }
     if !totals::is_writable(state) {
-        return Saved {
-            code: 28,
-            length: 0,
-        };
+        return not_written(Code::StateNotWritable);
     }
     let length = shape::file_length(state.contractcount, state.accountcount);
     if out.len() < length {
-        return Saved {
-            code: 29,
-            length: 0,
-        };
+        return not_written(Code::AreaTooShort);
     }
     writing::put_state(state, out);
     Saved { code: 0, length }
@@ -73,28 +75,35 @@ fn is_formed(state: State) -> bool
     audit::well_formed(state, &spare[..], &spare[..], &spare[..])
 }
 
+fn not_loaded(code: Code, state: State) -> Loaded
+    ensures { result ≡ record { code = code_number code; state = state } }
+{
+    Loaded {
+        code: code.number(),
+        state,
+    }
+}
+
 // A call for users: it answers on anything, and looks at nothing of the state given but what it leaves as it was.
 pub fn read_state(file: &[u8], state: State, buys: &[u32], sells: &[u32], trades: &[u32]) -> Loaded
     ensures { ReadIs (memory state buys.now sells.now trades.now) file.now result.code result.state }
 {
-    if !shape::is_shaped(file) {
-        return Loaded { code: 20, state };
+    let Some(saved) = SavedFile::of(file) else {
+        return not_loaded(Code::FileBroken, state);
+    };
+    if !shape::marks_sound(&saved) {
+        return not_loaded(Code::FileBroken, state);
     }
-    let contracts = contract_count(file);
-    let accounts = shape::account_count(file, contracts);
-    if !shape::marks_sound(file, contracts, accounts) {
-        return Loaded { code: 20, state };
-    }
-    let loaded = loading::loaded_state(file, contracts, accounts, state);
+    let loaded = loading::loaded_state(&saved, state);
     if !is_formed(loaded) {
-        return Loaded { code: 20, state };
+        return not_loaded(Code::FileBroken, state);
     }
     let loaded_accounts = loaded.accounts;
-    if !totals::all_equal(loaded_accounts, accounts, contracts) {
-        return Loaded { code: 30, state };
+    if !totals::all_equal(loaded_accounts, saved.accounts, saved.contracts) {
+        return not_loaded(Code::TotalsDiffer, state);
     }
     if !has_room(loaded, buys, sells, trades) {
-        return Loaded { code: 29, state };
+        return not_loaded(Code::AreaTooShort, state);
     }
     Loaded {
         code: 0,

@@ -7,10 +7,10 @@ ghost use Rattle.rules.specs.Exchange.{no_account};
 ghost use Rattle.rules.specs.Memory.{put_account};
 ghost use Rattle.sections.specs.Sections.{holding_width};
 ghost use Rattle.statefile.specs.StateFile.{saved_contract_place, saved_contract, saved_holding, saved_account, loaded_account, loaded_from, loaded_state, saved_contract_width, saved_account_width};
-ghost use Rattle.saving.specs.Parts.{Laid};
 
 use crate::shape::{
     BALANCE_WIDTH, LOTS_WIDTH, SAVED_ACCOUNT_WIDTH, SAVED_CONTRACT_WIDTH, SETTLEMENTS_WIDTH,
+    SavedFile,
 };
 use dayfile::bytes::contract_at;
 use dayfile::head::TWO_COUNTS;
@@ -20,6 +20,7 @@ use sections::HOLDING_WIDTH;
 use settlement::reopen::no_orders;
 
 // the day file's contract, with its own last price
+#[tactic(auto, unfolding(statefile::specs::StateFile::saved_contract))]
 fn contract_from(file: &[u8], at: usize) -> Contract
     requires { at + saved_contract_width ≤ length file.now }
     ensures { result ≡ saved_contract file.now at }
@@ -29,6 +30,7 @@ fn contract_from(file: &[u8], at: usize) -> Contract
     c
 }
 
+// Three loops and not one with a closure: its clauses would be longer than the loop, and an account is written over the one there.
 fn contracts_over(
     file: &[u8],
     n: usize,
@@ -38,15 +40,14 @@ fn contracts_over(
     ensures { result ≡ overwritten (λ c. saved_contract file.now (saved_contract_place c)) places n }
 {
     let mut list = places;
-    let mut c: usize = 0;
-    while c < n {
+    for c in 0..n {
         list[c] = contract_from(file, rules::COUNT_WIDTH + SAVED_CONTRACT_WIDTH * c);
-        c += 1;
     }
     list
 }
 
 // what is held, at the start of the day and now
+#[tactic(auto, unfolding(statefile::specs::StateFile::saved_holding))]
 fn holding_from(file: &[u8], at: usize) -> Holding
     requires { at + holding_width ≤ length file.now }
     ensures { result ≡ saved_holding file.now at }
@@ -71,10 +72,8 @@ fn holdings_over(
     ensures { result ≡ overwritten (λ c. saved_holding file.now (row + holding_width * c)) places n }
 {
     let mut list = places;
-    let mut c: usize = 0;
-    while c < n {
+    for c in 0..n {
         list[c] = holding_from(file, row + HOLDING_WIDTH * c);
-        c += 1;
     }
     list
 }
@@ -84,68 +83,49 @@ fn account_over(file: &[u8], at: usize, row: usize, n: usize, room: Account) -> 
     requires { (n ≤ max_contracts) × (at + saved_account_width ≤ length file.now) × (row + holding_width * n ≤ length file.now) }
     ensures { result ≡ put_account (saved_account file.now n at row) room }
 {
-    let balance = signed(u64_at(file, at));
-    let mark = u8_at(file, at + BALANCE_WIDTH);
-    let places = room.holdings;
-    let holdings = holdings_over(file, row, n, places);
     Account {
-        balance,
-        maker: mark as u64,
-        holdings,
+        balance: signed(u64_at(file, at)),
+        maker: u64::from(u8_at(file, at + BALANCE_WIDTH)),
+        holdings: holdings_over(file, row, n, room.holdings),
     }
 }
 
 fn accounts_over(
-    file: &[u8],
-    contracts: usize,
-    accounts: usize,
+    file: &SavedFile<'_>,
     places: [Account; rules::MAX_ACCOUNTS],
 ) -> [Account; rules::MAX_ACCOUNTS]
-    requires { Laid file.now contracts accounts }
-    ensures { result ≡ overwritten (λ a. put_account (loaded_account file.now a) (get_or places a no_account)) places accounts }
+    ensures { result ≡ overwritten (λ a. put_account (loaded_account file.now.bytes.now a) (get_or places a no_account)) places file.now.accounts }
 {
-    let first = TWO_COUNTS + SAVED_CONTRACT_WIDTH * contracts;
-    let rows = first + SAVED_ACCOUNT_WIDTH * accounts + rules::COUNT_WIDTH;
-    let row_width = HOLDING_WIDTH * contracts;
+    let first = TWO_COUNTS + SAVED_CONTRACT_WIDTH * file.contracts;
+    let rows = first + SAVED_ACCOUNT_WIDTH * file.accounts + rules::COUNT_WIDTH;
+    let row_width = HOLDING_WIDTH * file.contracts;
     let mut list = places;
-    let mut a: usize = 0;
-    while a < accounts {
-        let room = places[a];
+    for a in 0..file.accounts {
         list[a] = account_over(
-            file,
+            file.bytes,
             first + SAVED_ACCOUNT_WIDTH * a,
             rows + row_width * a,
-            contracts,
-            room,
+            file.contracts,
+            places[a],
         );
-        a += 1;
     }
     list
 }
 
-pub fn loaded_state(file: &[u8], contracts: usize, accounts: usize, state: State) -> State
-    requires { Laid file.now contracts accounts }
-    ensures { result ≡ loaded_state state (loaded_from file.now) }
+pub fn loaded_state(file: &SavedFile<'_>, state: State) -> State
+    ensures { result ≡ loaded_state state (loaded_from file.now.bytes.now) }
 {
-    let old_terms = state.contracts;
-    let old_accounts = state.accounts;
-    let old_buycounts = state.buycounts;
-    let old_sellcounts = state.sellcounts;
-    let terms = contracts_over(file, contracts, old_terms);
-    let new_accounts = accounts_over(file, contracts, accounts, old_accounts);
-    let buycounts = no_orders(old_buycounts, contracts);
-    let sellcounts = no_orders(old_sellcounts, contracts);
-    let settlements = u32_at(file, file.len() - SETTLEMENTS_WIDTH);
+    let contracts = file.contracts;
     State {
-        contracts: terms,
-        accounts: new_accounts,
-        buycounts,
-        sellcounts,
+        contracts: contracts_over(file.bytes, contracts, state.contracts),
+        accounts: accounts_over(file, state.accounts),
+        buycounts: no_orders(state.buycounts, contracts),
+        sellcounts: no_orders(state.sellcounts, contracts),
         contractcount: contracts,
-        accountcount: accounts,
+        accountcount: file.accounts,
         tradecount: 0,
         next: 1,
         nextstamp: 1,
-        settlements,
+        settlements: u32_at(file.bytes, file.bytes.len() - SETTLEMENTS_WIDTH),
     }
 }

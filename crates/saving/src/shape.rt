@@ -1,9 +1,8 @@
 // The counts and the length of a saved file, and its makers' marks. A count is tested before it is multiplied, and a part of the file is
 // read once the file is known to reach so far.
-ghost use Rattle.std.specs.Prelude.{◌≡◌, ◌+◌, ◌*◌, ◌≤◌, length};
+ghost use Rattle.std.specs.Prelude.{true, false, ◌≡◌, ◌+◌, ◌≤◌, MatchOption};
 ghost use Rattle.laws.specs.Choice.{all};
 ghost use Rattle.rules.specs.Bounds.{max_contracts, max_accounts};
-ghost use Rattle.rules.specs.DayFile.{contracts_in, count_width};
 ghost use Rattle.statefile.specs.StateFile as statefile;
 ghost use Rattle.saving.specs.Parts.{Laid, saved_most};
 
@@ -47,59 +46,61 @@ pub fn file_length(contracts: usize, accounts: usize) -> usize
         + HOLDING_WIDTH * contracts * accounts
 }
 
-// The accounts' count stands behind the contracts.
-pub fn account_count(file: &[u8], contracts: usize) -> usize
-    requires { (contracts ≡ contracts_in file.now) × (contracts ≤ max_contracts) × (2 * count_width + statefile.saved_contract_width * contracts ≤ length file.now) }
-    ensures { result ≡ statefile.saved_accounts_in file.now }
-{
-    u32_at(file, rules::COUNT_WIDTH + SAVED_CONTRACT_WIDTH * contracts) as usize
+// A saved file that was tested to be as long as its counts say: so what takes one asks for nothing more.
+#[derive(Clone, Copy)]
+pub struct SavedFile<'a> {
+    pub bytes: &'a [u8],
+    pub contracts: usize,
+    pub accounts: usize,
+
+    pub ghost laid: { Laid bytes.now contracts accounts },
+}
+
+impl<'a> SavedFile<'a> {
+    pub fn of(bytes: &'a [u8]) -> Option<Self>
+        ensures { MatchOption result (statefile.shaped bytes.now ≡ false) (λ file. (statefile.shaped bytes.now ≡ true) × (file.bytes.now ≡ bytes.now)) }
+    {
+        let contracts = count_before(bytes, rules::COUNT_WIDTH, rules::MAX_CONTRACTS)?;
+        let end = TWO_COUNTS + SAVED_CONTRACT_WIDTH * contracts;
+        let accounts = count_before(bytes, end, rules::MAX_ACCOUNTS)?;
+        if bytes.len() != file_length(contracts, accounts) {
+            return None;
+        }
+        let file = SavedFile {
+            bytes,
+            contracts,
+            accounts,
+        };
+        if !counts_right(&file) {
+            return None;
+        }
+        Some(file)
+    }
 }
 
 // The counts of the last two sections.
-fn counts_right(file: &[u8], contracts: usize, accounts: usize) -> bool
-    requires { Laid file.now contracts accounts }
-    ensures { result ≡ statefile.counts_right file.now }
+fn counts_right(file: &SavedFile<'_>) -> bool
+    ensures { result ≡ statefile.counts_right file.now.bytes.now }
 {
-    let holdings = laws::wide(u32_at(
-        file,
-        TWO_COUNTS + SAVED_CONTRACT_WIDTH * contracts + SAVED_ACCOUNT_WIDTH * accounts,
-    ));
-    if holdings != accounts * contracts {
+    let at = TWO_COUNTS
+        + SAVED_CONTRACT_WIDTH * file.contracts
+        + SAVED_ACCOUNT_WIDTH * file.accounts;
+    let holdings = u32_at(file.bytes, at) as usize;
+    if holdings != file.accounts * file.contracts {
         return false;
     }
-    u32_at(file, file.len() - LAST_SECTION) == 1
-}
-
-pub fn is_shaped(file: &[u8]) -> bool
-    ensures { result ≡ statefile.shaped file.now }
-{
-    let contracts = count_before(file, rules::COUNT_WIDTH, rules::MAX_CONTRACTS);
-    if contracts == 0 {
-        return false;
-    }
-    let end = TWO_COUNTS + SAVED_CONTRACT_WIDTH * contracts;
-    let accounts = count_before(file, end, rules::MAX_ACCOUNTS);
-    if accounts == 0 {
-        return false;
-    }
-    if file.len() != file_length(contracts, accounts) {
-        return false;
-    }
-    counts_right(file, contracts, accounts)
+    u32_at(file.bytes, file.bytes.len() - LAST_SECTION) == 1
 }
 
 // "maker mark 1, its value 0 or 1"
-pub fn marks_sound(file: &[u8], contracts: usize, accounts: usize) -> bool
-    requires { Laid file.now contracts accounts }
-    ensures { result ≡ all (statefile.mark_sound file.now) accounts }
+pub fn marks_sound(file: &SavedFile<'_>) -> bool
+    ensures { result ≡ all (statefile.mark_sound file.now.bytes.now) file.now.accounts }
 {
-    let first = FIRST_MARK + SAVED_CONTRACT_WIDTH * contracts;
-    let mut a: usize = 0;
-    while a < accounts {
-        if 1 < u8_at(file, first + SAVED_ACCOUNT_WIDTH * a) {
+    let first = FIRST_MARK + SAVED_CONTRACT_WIDTH * file.contracts;
+    for a in 0..file.accounts {
+        if 1 < u8_at(file.bytes, first + SAVED_ACCOUNT_WIDTH * a) {
             return false;
         }
-        a += 1;
     }
     true
 }

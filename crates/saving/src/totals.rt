@@ -1,5 +1,5 @@
 // Whether a state may be written. For this crate: each requires counts within the arrays.
-ghost use Rattle.std.specs.Prelude.{◌≡◌, ◌^◌, ◌≤◌, ◌<◌, take};
+ghost use Rattle.std.specs.Prelude.{◌≡◌, ◌≤◌, ◌<◌, length, take};
 ghost use Rattle.laws.specs.Choice.{all};
 ghost use Rattle.rules.specs.Bounds.{max_contracts, max_accounts};
 ghost use Rattle.statefile.specs.StateFile.{totals_equal};
@@ -7,27 +7,18 @@ ghost use Rattle.saving.specs.Parts.{empty_pre_open_at, state_writable};
 
 use rules::{Account, State};
 
-// A cast as a call, which says how large the number is.
-fn wide_lots(x: u32) -> u64
-    ensures { (result ≡ x) × (result < 2 ^ 32) }
-{
-    x as u64
-}
-
 // "its long and short totals are equal"
-fn totals_equal(list: [Account; rules::MAX_ACCOUNTS], accounts: usize, c: usize) -> bool
-    requires { (accounts ≤ max_accounts) × (c < max_contracts) }
-    ensures { result ≡ totals_equal (take accounts list) c }
+fn totals_equal(accounts: &[Account], c: usize) -> bool
+    requires { (length accounts.now ≤ max_accounts) × (c < max_contracts) }
+    ensures { result ≡ totals_equal accounts.now c }
 {
-    let mut long: u64 = 0;
-    let mut short: u64 = 0;
-    let mut a: usize = 0;
-    while a < accounts {
-        let holder = list[a];
-        let h = holder.holdings[c];
-        long += wide_lots(h.long);
-        short += wide_lots(h.short);
-        a += 1;
+    let mut long = 0;
+    let mut short = 0;
+    for a in accounts {
+        let h = a.holdings[c];
+        // Casts: with `u64::from` the proof does not find that a number read from a list is so small.
+        long += h.long as u64;
+        short += h.short as u64;
     }
     long == short
 }
@@ -36,12 +27,10 @@ pub fn all_equal(list: [Account; rules::MAX_ACCOUNTS], accounts: usize, contract
     requires { (accounts ≤ max_accounts) × (contracts ≤ max_contracts) }
     ensures { result ≡ all (totals_equal (take accounts list)) contracts }
 {
-    let mut c: usize = 0;
-    while c < contracts {
-        if !totals_equal(list, accounts, c) {
+    for c in 0..contracts {
+        if !totals_equal(&list[..accounts], c) {
             return false;
         }
-        c += 1;
     }
     true
 }
@@ -51,22 +40,13 @@ fn all_empty(state: State) -> bool
     requires { state.contractcount ≤ max_contracts }
     ensures { result ≡ all (empty_pre_open_at state) state.contractcount }
 {
-    let contracts = state.contractcount;
-    let mut c: usize = 0;
-    while c < contracts {
-        let terms = state.contracts[c];
-        let buycount = state.buycounts[c];
-        let sellcount = state.sellcounts[c];
-        if terms.phase != rules::PRE_OPEN {
+    for c in 0..state.contractcount {
+        if state.contracts[c].phase != rules::PRE_OPEN
+            || state.buycounts[c] != 0
+            || state.sellcounts[c] != 0
+        {
             return false;
         }
-        if buycount != 0 {
-            return false;
-        }
-        if sellcount != 0 {
-            return false;
-        }
-        c += 1;
     }
     true
 }
@@ -78,8 +58,7 @@ pub fn is_writable(state: State) -> bool
     if !all_empty(state) {
         return false;
     }
-    let accounts = state.accounts;
-    if !all_equal(accounts, state.accountcount, state.contractcount) {
+    if !all_equal(state.accounts, state.accountcount, state.contractcount) {
         return false;
     }
     if state.tradecount != 0 {

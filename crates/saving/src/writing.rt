@@ -9,7 +9,7 @@ ghost use Rattle.endian.specs.Written.{Written};
 ghost use Rattle.rules.specs.Exchange.{no_account, no_contract};
 ghost use Rattle.sections.specs.Sections.{section};
 ghost use Rattle.statefile.specs.StateFile.{contract_bytes, account_bytes, saved_contract_width, saved_account_width, settlements_width};
-ghost use Rattle.saving.specs.Parts.{Short, Fitting, contract_row, account_row, contract_section, account_section, holding_section, state_bytes};
+ghost use Rattle.saving.specs.Parts.{Short, Fitting, contract_section, account_section, holding_section, state_bytes};
 
 use endian::writing::{put_byte, put_u16, put_u32, put_u64, unsigned};
 use rules::{Account, Contract, State};
@@ -30,26 +30,6 @@ fn put_contract(out: &mut [u8], at: usize, c: Contract) -> usize
     put_u32(out, method, c.last)
 }
 
-fn put_contracts(
-    out: &mut [u8],
-    at: usize,
-    list: [Contract; rules::MAX_CONTRACTS],
-    n: usize,
-) -> usize
-    requires n_le_max_contracts { (n ≤ max_contracts) × (at + length (contract_row list n) ≤ length out.old) }
-    requires by_index { (c : ℕ) → c < n → Short (get_or list c no_contract) }
-    ensures { Written (length (contract_row list n)) out.old at (contract_row list n) out.new result }
-{
-    let mut next = at;
-    let mut c: usize = 0;
-    while c < n {
-        let terms = list[c];
-        next = put_contract(out, next, terms);
-        c += 1;
-    }
-    next
-}
-
 // "signed balance 8, maker mark 1"
 fn put_account(out: &mut [u8], at: usize, a: Account) -> usize
     requires { (at + saved_account_width ≤ length out.old) × (a.maker ≤ 1) }
@@ -59,48 +39,29 @@ fn put_account(out: &mut [u8], at: usize, a: Account) -> usize
     put_byte(out, next, a.maker as u8)
 }
 
-fn put_accounts(out: &mut [u8], at: usize, list: [Account; rules::MAX_ACCOUNTS], n: usize) -> usize
-    requires n_le_max_accounts { (n ≤ max_accounts) × (at + length (account_row list n) ≤ length out.old) }
-    requires by_index { (a : ℕ) → a < n → (get_or list a no_account).maker ≤ 1 }
-    ensures { Written (length (account_row list n)) out.old at (account_row list n) out.new result }
+// "Sections in a fixed order, each after its count". Two loops: one with a closure that writes an entry would be no plainer.
+fn put_contract_section(out: &mut [u8], at: usize, list: &[Contract]) -> usize
+    requires few { (length list.now ≤ max_contracts) × (at + length (contract_section list.now (length list.now)) ≤ length out.old) }
+    requires by_index { (c : ℕ) → c < length list.now → Short (get_or list.now c no_contract) }
+    ensures { Written (length (contract_section list.now (length list.now))) out.old at (contract_section list.now (length list.now)) out.new result }
 {
-    let mut next = at;
-    let mut i: usize = 0;
-    while i < n {
-        let a = list[i];
-        next = put_account(out, next, a);
-        i += 1;
+    let mut next = put_u32(out, at, list.len() as u32);
+    for c in list {
+        next = put_contract(out, next, *c);
     }
     next
 }
 
-// "Sections in a fixed order, each after its count"
-fn put_contract_section(
-    out: &mut [u8],
-    at: usize,
-    list: [Contract; rules::MAX_CONTRACTS],
-    n: usize,
-) -> usize
-    requires n_le_max_contracts { (n ≤ max_contracts) × (at + length (contract_section list n) ≤ length out.old) }
-    requires by_index { (c : ℕ) → c < n → Short (get_or list c no_contract) }
-    ensures { Written (length (contract_section list n)) out.old at (contract_section list n) out.new result }
+fn put_account_section(out: &mut [u8], at: usize, list: &[Account]) -> usize
+    requires few { (length list.now ≤ max_accounts) × (at + length (account_section list.now (length list.now)) ≤ length out.old) }
+    requires by_index { (a : ℕ) → a < length list.now → (get_or list.now a no_account).maker ≤ 1 }
+    ensures { Written (length (account_section list.now (length list.now))) out.old at (account_section list.now (length list.now)) out.new result }
 {
-    let next = put_u32(out, at, n as u32);
-    put_contracts(out, next, list, n)
-}
-
-fn put_account_section(
-    out: &mut [u8],
-    at: usize,
-    list: [Account; rules::MAX_ACCOUNTS],
-    n: usize,
-) -> usize
-    requires n_le_max_accounts { (n ≤ max_accounts) × (at + length (account_section list n) ≤ length out.old) }
-    requires by_index { (a : ℕ) → a < n → (get_or list a no_account).maker ≤ 1 }
-    ensures { Written (length (account_section list n)) out.old at (account_section list n) out.new result }
-{
-    let next = put_u32(out, at, n as u32);
-    put_accounts(out, next, list, n)
+    let mut next = put_u32(out, at, list.len() as u32);
+    for a in list {
+        next = put_account(out, next, *a);
+    }
+    next
 }
 
 fn put_holding_section(
@@ -113,8 +74,7 @@ fn put_holding_section(
     requires { (n ≤ max_accounts) × (contracts ≤ max_contracts) × (at + length (holding_section list n contracts) ≤ length out.old) }
     ensures { Written (length (holding_section list n contracts)) out.old at (holding_section list n contracts) out.new result }
 {
-    let entries = n * contracts;
-    let next = put_u32(out, at, entries as u32);
+    let next = put_u32(out, at, (n * contracts) as u32);
     put_holdings(out, next, list, n, contracts)
 }
 
@@ -132,11 +92,9 @@ pub fn put_state(state: State, out: &mut [u8])
     ensures { out.new ≡ over out.old 0 (state_bytes state) }
 {
     let contracts = state.contractcount;
-    let accountcount = state.accountcount;
-    let terms = state.contracts;
-    let accounts = state.accounts;
-    let first = put_contract_section(out, 0, terms, contracts);
-    let second = put_account_section(out, first, accounts, accountcount);
-    let third = put_holding_section(out, second, accounts, accountcount, contracts);
+    let accounts = state.accountcount;
+    let first = put_contract_section(out, 0, &state.contracts[..contracts]);
+    let second = put_account_section(out, first, &state.accounts[..accounts]);
+    let third = put_holding_section(out, second, state.accounts, accounts, contracts);
     put_settlements(out, third, state.settlements);
 }

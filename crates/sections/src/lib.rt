@@ -27,11 +27,8 @@ fn put_account(out: &mut [u8], at: usize, a: Account, contracts: usize) -> usize
     ensures { Written (length (account_holdings a contracts)) out.old at (account_holdings a contracts) out.new result }
 {
     let mut next = at;
-    let mut c: usize = 0;
-    while c < contracts {
-        let h = a.holdings[c];
-        next = put_holding(out, next, h);
-        c += 1;
+    for h in &a.holdings[..contracts] {
+        next = put_holding(out, next, *h);
     }
     next
 }
@@ -48,11 +45,8 @@ pub fn put_holdings(
     ensures { Written (length (holdings_bytes accounts count contracts)) out.old at (holdings_bytes accounts count contracts) out.new result }
 {
     let mut next = at;
-    let mut i: usize = 0;
-    while i < count {
-        let a = accounts[i];
-        next = put_account(out, next, a, contracts);
-        i += 1;
+    for a in &accounts[..count] {
+        next = put_account(out, next, *a, contracts);
     }
     next
 }

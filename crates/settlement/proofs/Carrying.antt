@@ -46,19 +46,6 @@ module _ (account : Account) (contracts : ℕ) (room : contracts ≤ length acco
       let k = w.maker in
       λ i. record { balance = b i; maker = k i; holdings = e i }
 
--- another balance, as the code reads it from its bits
-pub carried_paid : (account next : Account) (contracts : ℕ) (b x y : ℤ) → Within (2 * 10 ^ 18) account.balance → Within 16_000_000_000_000_000 x
-    → Within 16_000_000_000_000_000 y → SFits w64 b → b ≡ to_z w64 (of_z w64 account.balance) +ℤ (to_z w64 (of_z w64 x) +ℤ to_z w64 (of_z w64 y))
-    → next ≡ put_account (carried_account account contracts account.balance) account
-    → record { balance = to_z w64 (of_z w64 b); maker = next.maker; holdings = next.holdings } ≡ put_account (carried_account account contracts (account.balance +ℤ (x +ℤ y))) account
-carried_paid account next contracts b x y h hx hy f e n =
-    let u : to_z w64 (of_z w64 x) ≡ x = back 16_000_000_000_000_000 (omega arith) hx in
-    let v : to_z w64 (of_z w64 y) ≡ y = back 16_000_000_000_000_000 (omega arith) hy in
-    let p : to_z w64 (of_z w64 b) ≡ account.balance +ℤ (x +ℤ y) = to_z-of_z {w = w64} f ∙ e ∙ rw (back (2 * 10 ^ 18) (omega arith) h, u, v) in
-    let q : next.holdings ≡ put_first (map carried_holding (take contracts account.holdings)) account.holdings = ap (λ (v : Account). v.holdings) n in
-    let k : next.maker ≡ account.maker = ap (λ (v : Account). v.maker) n in
-    λ i. record { balance = p i; maker = k i; holdings = q i }
-
 -- ---- the balance
 
 module _ (b x y : ℤ) (hb : Within (2 * 10 ^ 18) b) (hx : Within 16_000_000_000_000_000 x) (hy : Within 16_000_000_000_000_000 y) where

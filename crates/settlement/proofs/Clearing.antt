@@ -47,11 +47,6 @@ module _ (area₀ counts : List ℕ) (contracts : ℕ) (g : Clearable area₀ co
         long = ap length p ∙ length_put_queue area c (get_or counts c 0) [] (g.counts c h) (omega arith) (omega (arith, g.room, w.long)) ∙ w.long;
       }
 
-pub clearing_done : (area₀ counts : List ℕ) (contracts c : ℕ) (area : List ℕ) → contracts ≤ c → Clearing area₀ counts contracts c area → area ≡ put_queues area₀ counts (λ c. []) contracts
-clearing_done area₀ counts contracts c area h w =
-    let e : c ≡ contracts = omega (arith, w.within) in
-    w.cleared ∙ rw e
-
 -- ---- the trades, at the front of their area
 
 pub trades_cleared : (area : List ℕ) (n : ℕ) (part : List ℕ) → trade_stride * n ≤ length area → part ≡ replicate (length (take (trade_stride * n) area)) 0

@@ -27,14 +27,6 @@ use Rattle.settlement.proofs.Places.{overwritten_accounts}
 
 -- ---- the state of the next day, from its parts
 
-pub next_day_is : (s : State) (accounts : List Account) (prices : List ℕ) (cs : List Contract) (buycounts sellcounts : List ℕ)
-    → cs ≡ put_first (tabulate s.contractcount (λ c. settled_contract (get_or s.contracts c no_contract) (get_or prices c 0))) s.contracts
-    → buycounts ≡ put_first (tabulate s.contractcount (λ c. 0)) s.buycounts → sellcounts ≡ put_first (tabulate s.contractcount (λ c. 0)) s.sellcounts
-    → record { contracts = cs; accounts = accounts; buycounts = buycounts; sellcounts = sellcounts; contractcount = s.contractcount; accountcount = s.accountcount; tradecount = 0; next = 1; nextstamp = 1; settlements = s.settlements + 1 }
-    ≡ next_day s accounts prices
-next_day_is s accounts prices cs buycounts sellcounts e f g =
-    λ i. record { contracts = e i; accounts = accounts; buycounts = f i; sellcounts = g i; contractcount = s.contractcount; accountcount = s.accountcount; tradecount = 0; next = 1; nextstamp = 1; settlements = s.settlements + 1 }
-
 -- ---- queues that agree are written alike
 
 put_queues_ext : (area counts : List ℕ) (f g : ℕ → List Order) (n : ℕ) → ((c : ℕ) → c < n → f c ≡ g c) → put_queues area counts f n ≡ put_queues area counts g n

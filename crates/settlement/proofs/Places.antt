@@ -1,7 +1,7 @@
 -- Lists whose first places are written anew, as the memory's laws have them. Assumes nothing.
-use Rattle.laws.specs.Logic.{List, [], ◌∷◌, map, ◌≡◌, refl, ap, ◌∙◌}
-use Rattle.laws.specs.Numbers.{ℕ, zero, suc, ◌≤◌, le_of_suc-le-suc, not-suc-le-zero, length, get_or, take, replicate, length-map, List·getD-map, length-take-le}
-use Rattle.laws.specs.Numbers.{get_or-take}
+use Rattle.laws.specs.Logic.{List, [], ◌∷◌, ◌++◌, map, ◌≡◌, refl, ap, ◌∙◌}
+use Rattle.laws.specs.Numbers.{ℕ, zero, suc, ◌≤◌, le_of_suc-le-suc, not-suc-le-zero, length, get_or, take, replicate, drop, length-map, List·getD-map, length-take-le}
+use Rattle.laws.specs.Numbers.{get_or-take, get_or-replicate, length-replicate}
 use Rattle.laws.specs.Tabulate.{tabulate, length_tabulate, tabulate_eq}
 use Rattle.laws.specs.Written.{overwritten}
 use Rattle.areas.specs.Lists.{padded}
@@ -14,6 +14,12 @@ use Rattle.rules.specs.declared.Account.{Account}
 pub overwritten_first : {A : Type 0} (f : ℕ → A) (l : List A) (n : ℕ) → put_first (tabulate n f) l ≡ overwritten f l n
 unfolding overwritten
 overwritten_first f l n = rw (length_tabulate n f)
+
+pub zeros_first : (l part : List ℕ) (n : ℕ) → part ≡ replicate n 0 → part ++ drop n l ≡ put_first (tabulate n (λ c. 0)) l
+zeros_first l part n e = rw (length_tabulate {A = ℕ} n (λ c. 0)) (ap (λ (xs : List ℕ). xs ++ drop n l) (e ∙ replicated n))
+  where
+    replicated : (k : ℕ) → replicate {A = ℕ} k 0 ≡ tabulate k (λ c. 0)
+    replicated k = tabulate_eq k (λ c. 0) (replicate k 0) 0 (length-replicate k 0) (λ i h. get_or-replicate k i 0 0 h)
 
 -- over zeros
 pub overwritten_padded : {A : Type 0} (f : ℕ → A) (n m : ℕ) (z : A) → overwritten f (replicate m z) n ≡ padded m z (tabulate n f)

@@ -18,21 +18,22 @@ use Rattle.settlement.specs.Settling.{account_in, HasDay, priced_in, terms_of, p
 use Rattle.settlement.specs.declared.balances.Priced.{Priced}
 use Rattle.dayprofit.specs.declared.profit.Profit.{Profit}
 
--- a signed total t, as its bits, of the first c values of f, each of at most 4 x 10^15
-pub record Adding (f : ℕ → ℤ) (t c : ℕ) : Type 0 where
-  pub total : to_z w64 t ≡ sum_to c f
-  pub small : Within (4_000_000_000_000_000 * c) (to_z w64 t)
+-- a total t of the first c values of f, each of at most 4 x 10^15
+pub record Adding (f : ℕ → ℤ) (t : ℤ) (c : ℕ) : Type 0 where
+  pub total : t ≡ sum_to c f
+  pub small : Within (4_000_000_000_000_000 * c) t
 
 module _ (f : ℕ → ℤ) where
-  pub adding_none : Adding f 0 0
+  pub adding_none : Adding f (pos 0) 0
   unfolding sum_to
   adding_none = record { total = refl; small = within_le (omega arith) within_zero }
 
-  module _ (t c : ℕ) (few : c < 4) (w : Adding f t c) (v : ℤ) (e : v ≡ f c) (small : Within 4_000_000_000_000_000 v) where
+  -- the code's total by its bits t
+  module _ (t c : ℕ) (few : c < 4) (w : Adding f (to_z w64 t) c) (v : ℤ) (e : v ≡ f c) (small : Within 4_000_000_000_000_000 v) where
     pub adding_fits : SFits w64 (to_z w64 t +ℤ to_z w64 (of_z w64 v))
     adding_fits = total_fits t w.small small (omega arith)
 
-    pub adding_more : Adding f (of_z w64 (to_z w64 t +ℤ to_z w64 (of_z w64 v))) (c + 1)
+    pub adding_more : Adding f (to_z w64 (of_z w64 (to_z w64 t +ℤ to_z w64 (of_z w64 v)))) (c + 1)
     unfolding sum_to
     adding_more =
         let b : to_z w64 (of_z w64 (to_z w64 t +ℤ to_z w64 (of_z w64 v))) ≡ to_z w64 t +ℤ v = total_back t w.small small (omega arith) in
@@ -62,17 +63,16 @@ module _ (holder : Account) (p : Priced) (closed closes opened opens used : List
   abbrev holding_term : ℕ → ℤ
   holding_term c = pos (terms_of p c).multiplier *ℤ holding_part holder p closed closes opened opens used a c
 
-pub record Totalling (holder : Account) (p : Priced) (closed closes opened opens used : List ℕ) (a gained held c : ℕ) : Type 0 where
+pub record Totalling (holder : Account) (p : Priced) (closed closes opened opens used : List ℕ) (a : ℕ) (gained held : ℤ) (c : ℕ) : Type 0 where
   pub within : c ≤ p.count
   pub closing : Adding (closing_term holder p closed closes opened opens used a) gained c
   pub holding : Adding (holding_term holder p closed closes opened opens used a) held c
 
 module _ (holder : Account) (p : Priced) (closed closes opened opens used : List ℕ) (a : ℕ) where
-  pub totalling_none : Totalling holder p closed closes opened opens used a 0 0 0
+  pub totalling_none : Totalling holder p closed closes opened opens used a (pos 0) (pos 0) 0
   totalling_none = record { within = omega arith; closing = adding_none _; holding = adding_none _ }
 
-module _ {holder : Account} {p : Priced} {closed closes opened opens used : List ℕ} {a gained held c : ℕ} (g : Totallable holder p closed closes opened opens used a)
-    (w : Totalling holder p closed closes opened opens used a gained held c) where
+module _ {holder : Account} {p : Priced} {closed closes opened opens used : List ℕ} {a c : ℕ} (g : Totallable holder p closed closes opened opens used a) where
   module _ (h : c < p.count) {r : Profit}
       (q : DayFrom closed closes opened opens used a c (terms_of p c).reference (held_by holder c) (price_of p c) r) where
     pub closing_bits : Within 4_000_000_000_000 (to_z w64 (of_z w64 r.closing))
@@ -84,37 +84,39 @@ module _ {holder : Account} {p : Priced} {closed closes opened opens used : List
     few : c < 4
     few = omega (arith, g.contracts)
 
-    module _ {x : ℤ} (e : x ≡ pos (terms_of p c).multiplier *ℤ to_z w64 (of_z w64 r.closing)) where
-      closing_is : x ≡ closing_term holder p closed closes opened opens used a c
-      closing_is = multiplied_is (terms_of p c).multiplier r.closing (g.multiplier c h) q.closing_small x e ∙ ap (λ (z : ℤ). pos (terms_of p c).multiplier *ℤ z) q.closing
+    -- the code's sums by their bits
+    module _ (gained held : ℕ) (w : Totalling holder p closed closes opened opens used a (to_z w64 gained) (to_z w64 held) c) where
+      module _ {x : ℤ} (e : x ≡ pos (terms_of p c).multiplier *ℤ to_z w64 (of_z w64 r.closing)) where
+        closing_is : x ≡ closing_term holder p closed closes opened opens used a c
+        closing_is = multiplied_is (terms_of p c).multiplier r.closing (g.multiplier c h) q.closing_small x e ∙ ap (λ (z : ℤ). pos (terms_of p c).multiplier *ℤ z) q.closing
 
-      closing_part : Within 4_000_000_000_000_000 x
-      closing_part = multiplied_small (terms_of p c).multiplier r.closing (g.multiplier c h) q.closing_small x e
+        closing_part : Within 4_000_000_000_000_000 x
+        closing_part = multiplied_small (terms_of p c).multiplier r.closing (g.multiplier c h) q.closing_small x e
 
-      pub closing_fits : SFits w64 (to_z w64 gained +ℤ to_z w64 (of_z w64 x))
-      closing_fits = adding_fits _ gained c few w.closing x closing_is closing_part
+        pub closing_fits : SFits w64 (to_z w64 gained +ℤ to_z w64 (of_z w64 x))
+        closing_fits = adding_fits _ gained c few w.closing x closing_is closing_part
 
-      module _ {y : ℤ} (f : y ≡ pos (terms_of p c).multiplier *ℤ to_z w64 (of_z w64 r.holding)) where
-        holding_is : y ≡ holding_term holder p closed closes opened opens used a c
-        holding_is = multiplied_is (terms_of p c).multiplier r.holding (g.multiplier c h) q.holding_small y f ∙ ap (λ (z : ℤ). pos (terms_of p c).multiplier *ℤ z) q.holding
+        module _ {y : ℤ} (f : y ≡ pos (terms_of p c).multiplier *ℤ to_z w64 (of_z w64 r.holding)) where
+          holding_is : y ≡ holding_term holder p closed closes opened opens used a c
+          holding_is = multiplied_is (terms_of p c).multiplier r.holding (g.multiplier c h) q.holding_small y f ∙ ap (λ (z : ℤ). pos (terms_of p c).multiplier *ℤ z) q.holding
 
-        holding_part_lem : Within 4_000_000_000_000_000 y
-        holding_part_lem = multiplied_small (terms_of p c).multiplier r.holding (g.multiplier c h) q.holding_small y f
+          holding_part_lem : Within 4_000_000_000_000_000 y
+          holding_part_lem = multiplied_small (terms_of p c).multiplier r.holding (g.multiplier c h) q.holding_small y f
 
-        pub holding_fits : SFits w64 (to_z w64 held +ℤ to_z w64 (of_z w64 y))
-        holding_fits = adding_fits _ held c few w.holding y holding_is holding_part_lem
+          pub holding_fits : SFits w64 (to_z w64 held +ℤ to_z w64 (of_z w64 y))
+          holding_fits = adding_fits _ held c few w.holding y holding_is holding_part_lem
 
-        pub totalling_more : Totalling holder p closed closes opened opens used a (of_z w64 (to_z w64 gained +ℤ to_z w64 (of_z w64 x))) (of_z w64 (to_z w64 held +ℤ to_z w64 (of_z w64 y))) (c + 1)
-        totalling_more =
-            record {
-              within = omega arith;
-              closing = adding_more _ gained c few w.closing x closing_is closing_part;
-              holding = adding_more _ held c few w.holding y holding_is holding_part_lem;
-            }
+          pub totalling_more : Totalling holder p closed closes opened opens used a (to_z w64 (of_z w64 (to_z w64 gained +ℤ to_z w64 (of_z w64 x)))) (to_z w64 (of_z w64 (to_z w64 held +ℤ to_z w64 (of_z w64 y)))) (c + 1)
+          totalling_more =
+              record {
+                within = omega arith;
+                closing = adding_more _ gained c few w.closing x closing_is closing_part;
+                holding = adding_more _ held c few w.holding y holding_is holding_part_lem;
+              }
 
-  pub totalling_done : p.count ≤ c
-      → TotalFrom holder p closed closes opened opens used a (record { closing = to_z w64 gained; holding = to_z w64 held })
-  totalling_done h =
+  pub totalling_done : {gained held : ℤ} → p.count ≤ c → Totalling holder p closed closes opened opens used a gained held c
+      → TotalFrom holder p closed closes opened opens used a (record { closing = gained; holding = held })
+  totalling_done h w =
       let e : c ≡ p.count = omega (arith, w.within) in
       record {
         closing = w.closing.total ∙ ap (λ (n : ℕ). sum_to n (closing_term holder p closed closes opened opens used a)) e;

@@ -1,6 +1,6 @@
 // The accounts in a settlement: each one's profit over all contracts, its balance and its holdings (document 01, "Margin and
 // settlement"). For our own crates: each function asks for values in the ranges of a well-formed state.
-ghost use Rattle.std.specs.Prelude.{◌≡◌, ◌*◌, ◌≤◌, pos, ◌+ℤ◌, ◌*ℤ◌, length};
+ghost use Rattle.std.specs.Prelude.{◌≡◌, ◌≤◌, pos, ◌+ℤ◌, ◌*ℤ◌, length};
 ghost use Rattle.laws.specs.Bound.{Within};
 ghost use Rattle.rules.specs.Bounds.{max_contracts, max_accounts, max_multiplier, balance_most};
 ghost use Rattle.rules.specs.Memory.{put_account};
@@ -13,7 +13,7 @@ use dayprofit::profit::Profit;
 use dayprofit::{profit, sums};
 use rules::{Account, Contract, Holding, State};
 
-// The accounts after a settlement, and each one's closing and holding profit.
+// The accounts after a settlement, and each one's closing and holding profit: array by array, as the report of a settlement has them.
 #[derive(Clone, Copy)]
 pub struct Books {
     pub accounts: [Account; rules::MAX_ACCOUNTS],
@@ -25,10 +25,10 @@ fn multiplied(profit: i64, multiplier: u32) -> i64
     requires { Within profit_most profit × (multiplier ≤ max_multiplier) }
     ensures { result ≡ pos multiplier *ℤ profit }
 {
-    profit * multiplier as i64
+    profit * i64::from(multiplier)
 }
 
-// The contracts in use: their terms and settlement prices.
+// The contracts in use, as many as `count`: their terms and settlement prices. Arrays and a count, as the state has them: no heap.
 #[derive(Clone, Copy)]
 struct Priced {
     contracts: [Contract; rules::MAX_CONTRACTS],
@@ -51,22 +51,16 @@ fn total<'a>(
     requires { Totallable holder priced closed.now closes.now opened.now opens.now used.now a }
     ensures { TotalFrom holder priced closed.now closes.now opened.now opens.now used.now a result }
 {
-    let contracts = priced.contracts;
-    let prices = priced.prices;
-    let count = priced.count;
     let mut closing: i64 = 0;
     let mut holding: i64 = 0;
-    let mut c: usize = 0;
-    while c < count {
-        let contract = contracts[c];
+    for c in 0..priced.count {
+        let contract = priced.contracts[c];
         let h = holder.holdings[c];
-        let due = prices[c];
+        let due = priced.prices[c];
         let reference = contract.reference;
-        let multiplier = contract.multiplier;
         let p = profit::profit_at(closed, closes, opened, opens, used, a, c, reference, h, due);
-        closing += multiplied(p.closing, multiplier);
-        holding += multiplied(p.holding, multiplier);
-        c += 1;
+        closing += multiplied(p.closing, contract.multiplier);
+        holding += multiplied(p.holding, contract.multiplier);
     }
     Profit { closing, holding }
 }
@@ -76,16 +70,12 @@ fn put_all_due(state: State, closed: &[u32], left: &mut [u32])
     requires { (state.accountcount ≤ max_accounts) × (length closed.now ≡ slots) × (length left.old ≡ slots) }
     ensures { AllDue state closed.now left.new }
 {
-    let end = rules::MAX_CONTRACTS * state.accountcount;
-    let mut k: usize = 0;
-    while k < end {
-        let a = k / rules::MAX_CONTRACTS;
-        let c = k % rules::MAX_CONTRACTS;
-        let holder = state.accounts[a];
-        let h = holder.holdings[c];
-        sums::put_due(closed, left, a, c, false, h.startlong);
-        sums::put_due(closed, left, a, c, true, h.startshort);
-        k += 1;
+    for a in 0..state.accountcount {
+        for c in 0..rules::MAX_CONTRACTS {
+            let h = state.accounts[a].holdings[c];
+            sums::put_due(closed, left, a, c, false, h.startlong);
+            sums::put_due(closed, left, a, c, true, h.startshort);
+        }
     }
 }
 
@@ -94,10 +84,9 @@ fn carried(h: Holding) -> Holding
     ensures { result ≡ settlement.carried_holding h }
 {
     Holding {
-        long: h.long,
-        short: h.short,
         startlong: h.long,
         startshort: h.short,
+        ..h
     }
 }
 
@@ -106,11 +95,8 @@ fn carried_over(account: Account, contracts: usize) -> Account
     ensures { result ≡ put_account (carried_account account contracts account.balance) account }
 {
     let mut next = account;
-    let mut c: usize = 0;
-    while c < contracts {
-        let h = account.holdings[c];
-        next.holdings[c] = carried(h);
-        c += 1;
+    for c in 0..contracts {
+        next.holdings[c] = carried(account.holdings[c]);
     }
     next
 }
@@ -128,10 +114,10 @@ fn paid(account: Account, contracts: usize, closing: i64, holding: i64) -> Accou
     requires { (contracts ≤ max_contracts) × Within balance_most account.balance × Within account_profit_most closing × Within account_profit_most holding }
     ensures { result ≡ put_account (carried_account account contracts (account.balance +ℤ (closing +ℤ holding))) account }
 {
-    let balance = with_profit(account.balance, closing, holding);
-    let mut next = carried_over(account, contracts);
-    next.balance = balance;
-    next
+    Account {
+        balance: with_profit(account.balance, closing, holding),
+        ..carried_over(account, contracts)
+    }
 }
 
 // Every account in use.
@@ -149,25 +135,20 @@ pub fn all_paid(state: State, trades: &[u32], prices: [u32; rules::MAX_CONTRACTS
     sums::add_up(trades, state.tradecount, false, &mut opened, &mut opens);
     put_all_due(state, &closed, &mut left);
     sums::take_first(trades, state.tradecount, &mut left, &mut used);
-    let terms = state.contracts;
     let priced = Priced {
-        contracts: terms,
+        contracts: state.contracts,
         prices,
         count: state.contractcount,
     };
     let mut accounts = state.accounts;
     let mut closing: [i64; rules::MAX_ACCOUNTS] = [0; rules::MAX_ACCOUNTS];
     let mut holding: [i64; rules::MAX_ACCOUNTS] = [0; rules::MAX_ACCOUNTS];
-    let mut a: usize = 0;
-    while a < state.accountcount {
+    for a in 0..state.accountcount {
         let account = state.accounts[a];
         let p = total(account, priced, &closed, &closes, &opened, &opens, &used, a);
-        let gained = p.closing;
-        let held = p.holding;
-        accounts[a] = paid(account, state.contractcount, gained, held);
-        closing[a] = gained;
-        holding[a] = held;
-        a += 1;
+        accounts[a] = paid(account, state.contractcount, p.closing, p.holding);
+        closing[a] = p.closing;
+        holding[a] = p.holding;
     }
     Books {
         accounts,

@@ -14,10 +14,11 @@ use rules::{Contract, PRE_OPEN, State};
 fn reopened(contract: Contract, price: u32) -> Contract
     ensures { result ≡ settlement.settled_contract contract price }
 {
-    let mut next = contract;
-    next.reference = price;
-    next.phase = PRE_OPEN;
-    next
+    Contract {
+        reference: price,
+        phase: PRE_OPEN,
+        ..contract
+    }
 }
 
 pub fn all_reopened(
@@ -29,12 +30,8 @@ pub fn all_reopened(
     ensures { result ≡ put_first (tabulate count (λ c. settlement.settled_contract (get_or contracts c no_contract) (get_or prices c 0))) contracts }
 {
     let mut next = contracts;
-    let mut c: usize = 0;
-    while c < count {
-        let contract = contracts[c];
-        let price = prices[c];
-        next[c] = reopened(contract, price);
-        c += 1;
+    for c in 0..count {
+        next[c] = reopened(contracts[c], prices[c]);
     }
     next
 }
@@ -48,11 +45,7 @@ pub fn no_orders(
     ensures { result ≡ put_first (tabulate contracts (λ c. 0)) counts }
 {
     let mut next = counts;
-    let mut c: usize = 0;
-    while c < contracts {
-        next[c] = 0;
-        c += 1;
-    }
+    next[..contracts].fill(0);
     next
 }
 
@@ -61,13 +54,10 @@ fn clear_queues(area: &mut [u32], counts: [usize; rules::MAX_CONTRACTS], contrac
     requires { Clearable area.old counts contracts }
     ensures { area.new ≡ put_queues area.old counts (λ c. []) contracts }
 {
-    let mut c: usize = 0;
-    while c < contracts {
-        let count = counts[c];
+    for c in 0..contracts {
         let a = rules::QUEUE_STRIDE * c;
-        let e = a + rules::ORDER_STRIDE * count;
-        areas::clear(&mut area[a..e]);
-        c += 1;
+        let e = a + rules::ORDER_STRIDE * counts[c];
+        area[a..e].fill(0);
     }
 }
 
@@ -76,11 +66,8 @@ pub fn clear_areas(state: State, buys: &mut [u32], sells: &mut [u32], trades: &m
     requires { AllClearable state buys.old sells.old trades.old }
     ensures { ClearedAre state buys.old sells.old trades.old buys.new sells.new trades.new }
 {
-    let contracts = state.contractcount;
-    let buycounts = state.buycounts;
-    let sellcounts = state.sellcounts;
+    clear_queues(buys, state.buycounts, state.contractcount);
+    clear_queues(sells, state.sellcounts, state.contractcount);
     let e = rules::TRADE_STRIDE * state.tradecount;
-    clear_queues(buys, buycounts, contracts);
-    clear_queues(sells, sellcounts, contracts);
-    areas::clear(&mut trades[..e]);
+    trades[..e].fill(0);
 }

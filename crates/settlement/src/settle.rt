@@ -5,7 +5,8 @@ ghost use Rattle.rules.specs.Bounds.{max_contracts, max_settlements};
 ghost use Rattle.rules.specs.Memory.{memory};
 ghost use Rattle.settlement.specs.Settling.{Settleable, SettledIs, AllChargeable, AllPriceable, ChargesAre, next_day, prices_due};
 
-use crate::{balances, reopen};
+use crate::balances::{self, Books};
+use crate::reopen;
 use dayprofit::price;
 use rules::{Account, State};
 
@@ -29,18 +30,18 @@ pub fn prices_due<'a>(
     requires { AllPriceable state buys.now sells.now trades.now }
     ensures { result ≡ prices_due state buys.now sells.now trades.now }
 {
-    let contracts = state.contractcount;
-    let count = state.tradecount;
     let mut prices: [u32; rules::MAX_CONTRACTS] = [0; rules::MAX_CONTRACTS];
-    let mut c: usize = 0;
-    while c < contracts {
-        let contract = state.contracts[c];
-        let buycount = state.buycounts[c];
-        let sellcount = state.sellcounts[c];
+    for c in 0..state.contractcount {
         prices[c] = price::settlement_price(
-            contract, buys, buycount, sells, sellcount, trades, count, c,
+            state.contracts[c],
+            buys,
+            state.buycounts[c],
+            sells,
+            state.sellcounts[c],
+            trades,
+            state.tradecount,
+            c,
         );
-        c += 1;
     }
     prices
 }
@@ -50,27 +51,18 @@ fn charges<'a>(state: State, buys: &'a [u32], sells: &'a [u32]) -> [u64; rules::
     requires { AllChargeable state buys.now sells.now }
     ensures { ChargesAre state buys.now sells.now result }
 {
-    let accountcount = state.accountcount;
-    let accounts = state.accounts;
-    let terms = state.contracts;
-    let buycounts = state.buycounts;
-    let sellcounts = state.sellcounts;
     let mut charged: [u64; rules::MAX_ACCOUNTS] = [0; rules::MAX_ACCOUNTS];
-    let mut a: usize = 0;
-    while a < accountcount {
-        let holder = accounts[a];
-        let holdings = holder.holdings;
+    for a in 0..state.accountcount {
         charged[a] = margin::charged(
-            holdings,
-            terms,
+            state.accounts[a].holdings,
+            state.contracts,
             state.contractcount,
             buys,
-            buycounts,
+            state.buycounts,
             sells,
-            sellcounts,
+            state.sellcounts,
             a,
         );
-        a += 1;
     }
     charged
 }
@@ -86,17 +78,11 @@ fn next_day(
     ensures { result ≡ next_day state accounts prices }
 {
     let contracts = state.contractcount;
-    let terms = state.contracts;
-    let old_buycounts = state.buycounts;
-    let old_sellcounts = state.sellcounts;
-    let reopened = reopen::all_reopened(terms, contracts, prices);
-    let buycounts = reopen::no_orders(old_buycounts, contracts);
-    let sellcounts = reopen::no_orders(old_sellcounts, contracts);
     State {
-        contracts: reopened,
+        contracts: reopen::all_reopened(state.contracts, contracts, prices),
         accounts,
-        buycounts,
-        sellcounts,
+        buycounts: reopen::no_orders(state.buycounts, contracts),
+        sellcounts: reopen::no_orders(state.sellcounts, contracts),
         contractcount: contracts,
         accountcount: state.accountcount,
         tradecount: 0,
@@ -111,10 +97,11 @@ pub fn settle(state: State, buys: &mut [u32], sells: &mut [u32], trades: &mut [u
     ensures { SettledIs (memory state buys.old sells.old trades.old) result buys.new sells.new trades.new }
 {
     let prices = prices_due(state, &buys[..], &sells[..], &trades[..]);
-    let books = balances::all_paid(state, &trades[..], prices);
-    let accounts = books.accounts;
-    let closing = books.closing;
-    let holding = books.holding;
+    let Books {
+        accounts,
+        closing,
+        holding,
+    } = balances::all_paid(state, &trades[..], prices);
     reopen::clear_areas(state, buys, sells, trades);
     let next = next_day(state, accounts, prices);
     let charged = charges(next, &buys[..], &sells[..]);

@@ -20,9 +20,11 @@ use Rattle.dayprofit.specs.Day.{AllSized, SizedTrades}
 use Rattle.settlement.proofs.Formed.{accounts_declared, contract_at_lem, contracts_four, price_high, priceable, sized_trades}
 use Rattle.replaying.specs.Parts.{Booked}
 use Rattle.clients.specs.Parts.{client_trades, clients_with}
-use Rattle.statements.specs.Parts.{Brokered, Postable, PostedIs, ToldIs, broker, clients_day, refused_with}
+use Rattle.statements.specs.Parts.{Brokered, Postable, PostedIs, ToldIs, broker, clients_day}
 use Rattle.clients.specs.Clients.{Clients, client_account, client_exchange, client_place, client_trade, is_posted, leg_count, client_holding, start_long, start_short, starts_add_up, total, trade_posted, client_places, max_clients, others}
-use Rattle.statements.specs.declared.Statement.{Statement}
+use Rattle.rules.specs.declared.codes.Code.{Code}
+use Rattle.rules.specs.declared.codes.Code.TheVariants.{OrderUnposted}
+use Rattle.std.specs.Prelude.{Result, Err}
 use Rattle.statements.proofs.Answering.{code_here, code_later, refused_is, same_code}
 use Rattle.clients.proofs.Posted.{client_holding_lem, posted_place, same_price}
 use Rattle.clients.proofs.Totals.{total_at}
@@ -198,15 +200,13 @@ module _ (s : State) (buys sells trades : List ℕ) (a clients : ℕ) (starts : 
         }
 
     -- what is told of the day is told of the clients' exchange
-    pub posted_told : (all : Bool) → all ≡ all_of (trade_posted a clients postings) (recorded_trades trades count) → all ≡ true → (k : ℕ) → k ≡ clients → (out : List ℕ) (r : Statement) (out' : List ℕ)
-        → ToldIs (clients_day s buys sells area starts k) k out r out' → PostedIs m a clients starts postings out r out'
+    pub posted_told : all_of (trade_posted a clients postings) (recorded_trades trades count) ≡ true → (out : List ℕ) (r : Result ℕ Code) (out' : List ℕ)
+        → ToldIs (clients_day s buys sells area starts clients) clients out r out' → PostedIs m a clients starts postings out r out'
     unfolding exchange_of
-    posted_told all q t k z out r out' w =
-        let v : ToldIs (client_exchange x a b) clients out r out' =
-        subst (λ (y : Exchange). ToldIs y clients out r out') day_is (subst (λ (i : ℕ). ToldIs (clients_day s buys sells area starts i) i out r out') z w) in
-        same_code (client_exchange x a b) clients out _ _ (sym (code_later 26 _ _ (ap not (sym q ∙ t)))) r out' v
+    posted_told t out r out' w =
+        let v : ToldIs (client_exchange x a b) clients out r out' = subst (λ (y : Exchange). ToldIs y clients out r out') day_is w in
+        same_code (client_exchange x a b) clients out _ _ (sym (code_later 26 _ _ (ap not t))) r out' v
 
-  pub posted_26 : (all : Bool) → all ≡ all_of (trade_posted a clients postings) (recorded_trades trades count) → not all ≡ true → (out : List ℕ) (r : Statement) → r ≡ refused_with 26
-      → PostedIs m a clients starts postings out r out
+  pub posted_26 : all_of (trade_posted a clients postings) (recorded_trades trades count) ≡ false → (out : List ℕ) → PostedIs m a clients starts postings out (Err OrderUnposted) out
   unfolding exchange_of
-  posted_26 all q t out r w = refused_is (client_exchange x a b) clients out _ 26 (code_here 26 _ _ (ap not (sym q) ∙ t)) refl r w
+  posted_26 t out = refused_is (client_exchange x a b) clients out _ OrderUnposted (code_here 26 _ _ (ap not t)) refl

@@ -2,7 +2,7 @@
 -- nothing.
 use native.Mathlib.Nat.{mul_assoc, mul_comm}
 use lib.IntN.{ℤ, pos}
-use Rattle.laws.specs.Logic.{true, false, List, ◌≡◌, refl, sym, ap, ap₂, ◌∙◌}
+use Rattle.laws.specs.Logic.{true, List, ◌≡◌, refl, sym, ap, ap₂, ◌∙◌}
 use Rattle.laws.specs.Numbers.{ℕ, ◌+◌, ◌*◌, ◌<◌, ◌≤◌, arith, length, get_or, length-append}
 use Rattle.laws.specs.Bound.{within_pos}
 use Rattle.laws.specs.Tabulate.{tabulate, length_tabulate, get_d_tabulate}
@@ -28,12 +28,12 @@ use Rattle.sections.proofs.Rows.{length_row, row_ext}
 use Rattle.clients.specs.Parts.{clients_with}
 use Rattle.replaying.specs.Parts.{Replayable, ReplayIs}
 use Rattle.replaying.proofs.Started.{start_at, used_day}
-use Rattle.statements.specs.Parts.{Brokered, ProfitsReady, Tellable, ToldIs, book_bytes, client_state, clients_day, refused_with, told}
+use Rattle.statements.specs.Parts.{Brokered, ProfitsReady, Tellable, ToldIs, book_bytes, clients_day, told}
 use Rattle.clients.specs.Clients.{client_account, holdings_now, leg_count, legs_in, never_closes_more, client_places}
 use Rattle.statements.specs.Statement.{profit_bytes, profits_bytes, statement_of, trade_bytes, trades_bytes, leg_width, profit_width}
-use Rattle.replaying.specs.declared.Held.{Held}
 use Rattle.clients.proofs.Totals.{length_row_total, total_bound}
-use Rattle.statements.specs.declared.Statement.{Statement}
+use Rattle.rules.specs.declared.codes.Code.TheVariants.{AreaTooShort, ClientClosesTooMuch}
+use Rattle.std.specs.Prelude.{Ok, Err, Option, Some, None, is_some}
 use Rattle.statements.proofs.Answering.{told_0, told_27, told_29}
 use Rattle.statements.proofs.Sections.{few_entries, length_profit, length_trade, two_legs}
 
@@ -46,6 +46,22 @@ same_starts clients starts = refl
 first_used : (n : ℕ) (f : ℕ → Account) → used n client_places (tabulate max_accounts f) ≡ used n client_places (tabulate client_places f)
 unfolding tabulate
 first_used n f = refl
+
+-- a state with clients in place of its accounts
+abbrev pub client_state : State → List Account → ℕ → State
+client_state s accounts clients =
+    record {
+      contracts = s.contracts;
+      accounts = accounts;
+      buycounts = s.buycounts;
+      sellcounts = s.sellcounts;
+      contractcount = s.contractcount;
+      accountcount = clients;
+      tradecount = s.tradecount;
+      next = s.next;
+      nextstamp = s.nextstamp;
+      settlements = s.settlements;
+    }
 
 -- ---- the day
 
@@ -89,14 +105,13 @@ module _ {s : State} {buys sells area starts : List ℕ} {clients legs' : ℕ} (
   unfolding clients_day
   accounts_of_lem = used_clients
 
-  module _ {h : Held} (q : ReplayIs accounts n client_places area s.tradecount h) where
-    pub covered_is : h.covered ≡ never_closes_more y
-    unfolding never_closes_more clients_day
-    covered_is = q.covered ∙ ap (λ (l : List Account). never_below_zero l ts) (used_start ∙ ap start_of_day used_clients)
+  pub covered_is : {r : Option (List Account)} → ReplayIs accounts n client_places area s.tradecount r → is_some r ≡ never_closes_more y
+  unfolding never_closes_more clients_day
+  covered_is q = q.covered ∙ ap (λ (l : List Account). never_below_zero l ts) (used_start ∙ ap start_of_day used_clients)
 
-    holdings_are : h.covered ≡ true → used n client_places h.accounts ≡ holdings_now y
-    unfolding holdings_now clients_day
-    holdings_are t = q.held t ∙ ap (λ (l : List Account). book_trades l ts) (used_start ∙ ap start_of_day used_clients)
+  holdings_are : {now : List Account} → ReplayIs accounts n client_places area s.tradecount (Some now) → used n client_places now ≡ holdings_now y
+  unfolding holdings_now clients_day
+  holdings_are q = q.held ∙ ap (λ (l : List Account). book_trades l ts) (used_start ∙ ap start_of_day used_clients)
 
   -- ---- contracts and prices
 
@@ -229,11 +244,11 @@ module _ {s : State} {buys sells area starts : List ℕ} {clients legs' : ℕ} (
 
   -- ---- the bytes that the code writes are the statement's
 
-  module _ {h : Held} (q : ReplayIs accounts n client_places area s.tradecount h) (t : h.covered ≡ true) {r : Books} (w : BooksIs cs area (prices_due cs buys sells area) r) where
-    now_at : (k c : ℕ) → k < client_places → c < n → holding_at h.accounts k c ≡ holding_at (holdings_now y) k c
-    now_at k c lk lc = sym (used_holding n client_places h.accounts k c lk lc) ∙ ap (λ (l : List Account). holding_at l k c) (holdings_are q t)
+  module _ {now : List Account} (q : ReplayIs accounts n client_places area s.tradecount (Some now)) {r : Books} (w : BooksIs cs area (prices_due cs buys sells area) r) where
+    now_at : (k c : ℕ) → k < client_places → c < n → holding_at now k c ≡ holding_at (holdings_now y) k c
+    now_at k c lk lc = sym (used_holding n client_places now k c lk lc) ∙ ap (λ (l : List Account). holding_at l k c) (holdings_are q)
 
-    holdings_told : holdings_bytes h.accounts clients n ≡ holdings_bytes (holdings_now y) clients n
+    holdings_told : holdings_bytes now clients n ≡ holdings_bytes (holdings_now y) clients n
     unfolding holdings_bytes
     holdings_told =
         row_ext _ (λ k. in_row n (λ c. holding_bytes (holding_at (holdings_now y) k c))) clients
@@ -250,11 +265,11 @@ module _ {s : State} {buys sells area starts : List ℕ} {clients legs' : ℕ} (
         (ap (λ (l : List ℤ). get_or l k (pos 0)) (w.books y has_day).closing ∙ paid_at (closing_profit y) k lk)
         (ap (λ (l : List ℤ). get_or l k (pos 0)) (w.books y has_day).holding ∙ paid_at (holding_profit y) k lk))
 
-    told_is : told ts legs' h.accounts r.closing r.holding clients n ≡ statement_of y clients
+    told_is : told ts legs' now r.closing r.holding clients n ≡ statement_of y clients
     unfolding statement_of clients_day
     told_is = rw (g.legs_are, holdings_told, profits_told, contracts_are)
 
-    pub tellable : (out : List ℕ) → size ≤ length out → Tellable area s.tradecount legs' h.accounts r.closing r.holding clients n out
+    pub tellable : (out : List ℕ) → size ≤ length out → Tellable area s.tradecount legs' now r.closing r.holding clients n out
     tellable out room =
         record {
           few_clients = g.few;
@@ -265,16 +280,16 @@ module _ {s : State} {buys sells area starts : List ℕ} {clients legs' : ℕ} (
           room = rw told_is (omega (arith, statement_length));
         }
 
-    pub told_whole : {out out' : List ℕ} → size ≤ length out → out' ≡ over out 0 (told ts legs' h.accounts r.closing r.holding clients n)
-        → ToldIs y clients out (record { code = 0; length = size }) out'
+    pub told_whole : {out out' : List ℕ} → size ≤ length out → out' ≡ over out 0 (told ts legs' now r.closing r.holding clients n)
+        → ToldIs y clients out (Ok size) out'
     told_whole {out} room put =
-        told_0 y clients out (sym (covered_is q) ∙ t) size (sym statement_length) room _ (put ∙ ap (λ (bytes : List ℕ). over out 0 bytes) told_is)
+        told_0 y clients out (sym (covered_is q)) size (sym statement_length) room _ (put ∙ ap (λ (bytes : List ℕ). over out 0 bytes) told_is)
 
   -- ---- nothing is told: a client closes more than it has, or the area is too short
 
-  module _ {h : Held} (q : ReplayIs accounts n client_places area s.tradecount h) {out : List ℕ} {r : Statement} where
-    pub told_uncovered : h.covered ≡ false → r ≡ refused_with 27 → ToldIs y clients out r out
-    told_uncovered t = told_27 y clients out (sym (covered_is q) ∙ t) r
+  module _ {out : List ℕ} where
+    pub told_uncovered : ReplayIs accounts n client_places area s.tradecount None → ToldIs y clients out (Err ClientClosesTooMuch) out
+    told_uncovered q = told_27 y clients out (sym (covered_is q))
 
-    pub told_short : h.covered ≡ true → length out < size → r ≡ refused_with 29 → ToldIs y clients out r out
-    told_short t short = told_29 y clients out (sym (covered_is q) ∙ t) size (sym statement_length) short r
+    pub told_short : {now : List Account} → ReplayIs accounts n client_places area s.tradecount (Some now) → length out < size → ToldIs y clients out (Err AreaTooShort) out
+    told_short q short = told_29 y clients out (sym (covered_is q)) size (sym statement_length) short

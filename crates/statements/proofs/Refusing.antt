@@ -5,15 +5,18 @@ use Rattle.laws.specs.Choice.{all, all_ext, either_false, true_either, either_tr
 use Rattle.rules.specs.Answers.{first_of}
 use Rattle.rules.specs.Exchange.{Exchange, absent, no_account, no_holding, place_of, is_absent}
 use Rattle.rules.specs.Memory.{Memory, exchange_of, well_formed_memory, WellFormedState, memory}
+use Rattle.rules.specs.Codes.{code_in}
+use Rattle.rules.specs.declared.codes.Code.{Code}
+use Rattle.rules.specs.declared.codes.Code.TheVariants.{ClientsDoNotFit, NoSuchAccount, StateNotWellFormed}
 use Rattle.rules.specs.declared.{Holding.Holding, State.State}
+use Rattle.std.specs.Prelude.{Result, Err}
 use Rattle.theory.proofs.InUse.{contracts_in_use, holding_in_use}
 use Rattle.engine.proofs.Formed.{formed, no_account_lem}
-use Rattle.statements.specs.Parts.{AnswerIs, Postable, PostedIs, broker, refused_with}
+use Rattle.statements.specs.Parts.{Postable, PostedIs, StatedIs, broker, length_in}
 use Rattle.clients.specs.Clients.{Clients, client_exchange, start_long, start_short, starts_add_up, total, max_clients}
 use Rattle.statements.specs.Statement.{StatementIs, broker_refusals, statement_code}
-use Rattle.statements.specs.declared.Statement.{Statement}
 use Rattle.statements.proofs.Paid.{statement_adds_up}
-use Rattle.statements.proofs.Answering.{code_here, code_later, refused_is}
+use Rattle.statements.proofs.Answering.{code_here, code_later, refused_is, same_code}
 
 module _ (m : Memory) (account : ℕ) (b : Clients) (out : List ℕ) where
   abbrev x : Exchange
@@ -22,42 +25,38 @@ module _ (m : Memory) (account : ℕ) (b : Clients) (out : List ℕ) where
   abbrev y : Exchange
   y = client_exchange x (place_of account) b
 
-  answered : (code : ℕ) → code ≡ statement_code m account b (length out) → (r : Statement) (out' : List ℕ) → AnswerIs code y b.count out r out'
-      → StatementIs m account b out r out'
-  answered code e r out' a =
+  -- the answer as a record
+  pub answered : (r : Result ℕ Code) (out' : List ℕ) → StatedIs m account b out r out' → StatementIs m account b out (record { code = code_in r; length = length_in r }) out'
+  answered r out' a =
       record {
-        code = a.code_is ∙ e;
+        code = a.code_is;
         length_is = a.length_is;
         out_is = a.out_is;
-        adds_up_lem = λ z. statement_adds_up m account b (length out) (sym (a.code_is ∙ e) ∙ z);
+        adds_up_lem = λ z. statement_adds_up m account b (length out) (sym a.code_is ∙ z);
       }
 
-  -- a refusal by its code
-  refused_by_lem : (k : ℕ) → statement_code m account b (length out) ≡ k → eqb k 0 ≡ false → (r : Statement) → r ≡ refused_with k → StatementIs m account b out r out
-  refused_by_lem k e z r w = answered _ refl r out (refused_is y b.count out _ k e z r w)
-
-  pub by_21 : well_formed_memory m ≡ false → (r : Statement) → r ≡ refused_with 21 → StatementIs m account b out r out
+  pub by_21 : well_formed_memory m ≡ false → StatedIs m account b out (Err StateNotWellFormed) out
   unfolding statement_code
-  by_21 e r w = refused_by_lem 21 (code_here 21 _ _ (ap not e)) refl r w
+  by_21 e = refused_is y b.count out _ StateNotWellFormed (code_here 21 _ _ (ap not e)) refl
 
   module _ (w : well_formed_memory m ≡ true) where
     past_21 : statement_code m account b (length out) ≡ first_of (broker_refusals x account b (length out))
     unfolding statement_code
     past_21 = code_later 21 _ _ (ap not w)
 
-    pub by_2 : absent account x.accounts ≡ true → (r : Statement) → r ≡ refused_with 2 → StatementIs m account b out r out
+    pub by_2 : absent account x.accounts ≡ true → StatedIs m account b out (Err NoSuchAccount) out
     unfolding broker_refusals
-    by_2 e r v = refused_by_lem 2 (past_21 ∙ code_here 2 _ _ e) refl r v
+    by_2 e = refused_is y b.count out _ NoSuchAccount (past_21 ∙ code_here 2 _ _ e) refl
 
     module _ (there : absent account x.accounts ≡ false) where
-      pub by_25 : (ltb max_clients b.count || not (starts_add_up x (place_of account) b)) ≡ true → (r : Statement) → r ≡ refused_with 25 → StatementIs m account b out r out
+      pub by_25 : (ltb max_clients b.count || not (starts_add_up x (place_of account) b)) ≡ true → StatedIs m account b out (Err ClientsDoNotFit) out
       unfolding broker_refusals
-      by_25 e r v = refused_by_lem 25 (past_21 ∙ code_later 2 _ _ there ∙ code_here 25 _ _ e) refl r v
+      by_25 e = refused_is y b.count out _ ClientsDoNotFit (past_21 ∙ code_later 2 _ _ there ∙ code_here 25 _ _ e) refl
 
-      pub from_26 : (ltb max_clients b.count || not (starts_add_up x (place_of account) b)) ≡ false → (r : Statement) (out' : List ℕ)
-          → PostedIs m (place_of account) b.count b.starts b.postings out r out' → StatementIs m account b out r out'
+      pub from_26 : (ltb max_clients b.count || not (starts_add_up x (place_of account) b)) ≡ false → (r : Result ℕ Code) (out' : List ℕ)
+          → PostedIs m (place_of account) b.count b.starts b.postings out r out' → StatedIs m account b out r out'
       unfolding broker_refusals
-      from_26 e r out' a = answered _ (sym (past_21 ∙ code_later 2 _ _ there ∙ code_later 25 _ _ e)) r out' a
+      from_26 e r out' a = same_code y b.count out _ _ (sym (past_21 ∙ code_later 2 _ _ there ∙ code_later 25 _ _ e)) r out' a
 
 -- ---- the tests on a well-formed state
 
@@ -75,30 +74,30 @@ module _ (s : State) (buys sells trades : List ℕ) (f : WellFormedState s buys 
   abbrev b' : Clients
   b' = broker clients starts postings
 
-  pub no_such_account : is_absent account s.accountcount ≡ true → (r : Statement) → r ≡ refused_with 2 → StatementIs memory' account b' out r out
-  no_such_account e r w = by_2 memory' account b' out f.formed (no_account_lem memory' (formed f) account ∙ e) r w
+  pub no_such_account : is_absent account s.accountcount ≡ true → StatedIs memory' account b' out (Err NoSuchAccount) out
+  no_such_account e = by_2 memory' account b' out f.formed (no_account_lem memory' (formed f) account ∙ e)
 
   module _ (present : is_absent account s.accountcount ≡ false) where
     there : absent account (exchange_of memory').accounts ≡ false
     there = no_account_lem memory' (formed f) account ∙ present
 
-    pub too_many : max_clients < clients → (r : Statement) → r ≡ refused_with 25 → StatementIs memory' account b' out r out
-    too_many h r w = by_25 memory' account b' out f.formed there (true_either _ _ (lt-ltb max_clients clients h)) r w
+    pub too_many : max_clients < clients → StatedIs memory' account b' out (Err ClientsDoNotFit) out
+    too_many h = by_25 memory' account b' out f.formed there (true_either _ _ (lt-ltb max_clients clients h))
 
     -- t: the code's answer whether the clients' lots add up, read at the account's place
-    module _ (few : clients ≤ max_clients) (k : ℕ) (ek : k ≡ clients) (place : ℕ) (ep : place ≡ place_of account) (t : Bool)
-        (et : t ≡ all (λ c. eqb (total k (λ i. start_long starts i c)) (get_or (get_or s.accounts place no_account).holdings c no_holding).startlong
-        && eqb (total k (λ i. start_short starts i c)) (get_or (get_or s.accounts place no_account).holdings c no_holding).startshort) s.contractcount) where
+    module _ (few : clients ≤ max_clients) (place : ℕ) (ep : place ≡ place_of account) (t : Bool)
+        (et : t ≡ all (λ c. eqb (total clients (λ i. start_long starts i c)) (get_or (get_or s.accounts place no_account).holdings c no_holding).startlong
+        && eqb (total clients (λ i. start_short starts i c)) (get_or (get_or s.accounts place no_account).holdings c no_holding).startshort) s.contractcount) where
       adds_is : t ≡ starts_add_up (exchange_of memory') (place_of account) b'
       unfolding starts_add_up
       adds_is =
-          et ∙ rw (ek, ep, contracts_in_use memory')
+          et ∙ rw (ep, contracts_in_use memory')
           (all_ext _ _ s.contractcount
           (λ c lc. ap (λ (h : Holding). eqb (total clients (λ i. start_long starts i c)) h.startlong && eqb (total clients (λ i. start_short starts i c)) h.startshort)
           (sym (holding_in_use memory' (place_of account) c (omega (arith, account_low account s.accountcount present, account_high account s.accountcount present)) lc))))
 
-      pub not_adding : not t ≡ true → (r : Statement) → r ≡ refused_with 25 → StatementIs memory' account b' out r out
-      not_adding h r w = by_25 memory' account b' out f.formed there (either_true (ltb max_clients clients) _ (ap not (sym adds_is) ∙ h)) r w
+      pub not_adding : not t ≡ true → StatedIs memory' account b' out (Err ClientsDoNotFit) out
+      not_adding h = by_25 memory' account b' out f.formed there (either_true (ltb max_clients clients) _ (ap not (sym adds_is) ∙ h))
 
       module _ (h : not t ≡ false) where
         at_place : Postable s buys sells trades (place_of account) clients starts
@@ -115,7 +114,7 @@ module _ (s : State) (buys sells trades : List ℕ) (f : WellFormedState s buys 
           pub postable : Postable s buys sells trades word clients starts
           postable = rw same at_place
 
-          pub adding : (r : Statement) (out' : List ℕ) → PostedIs memory' word clients starts postings out r out' → StatementIs memory' account b' out r out'
+          pub adding : (r : Result ℕ Code) (out' : List ℕ) → PostedIs memory' word clients starts postings out r out' → StatedIs memory' account b' out r out'
           adding r out' a =
               from_26 memory' account b' out f.formed there
               (rw (le-ltb max_clients clients few) (ap not (sym adds_is) ∙ h)) r out' (rw same at a)

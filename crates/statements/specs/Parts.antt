@@ -1,11 +1,13 @@
 -- What the functions of this crate ask for and give back, for their contracts. Assumes nothing.
-use Rattle.std.specs.Prelude.{true, List, [], ◌++◌, ◌≡◌, ℕ, ◌*◌, ◌<◌, ◌≤◌, ℤ, pos, length, get_or, eqb}
+use Rattle.std.specs.Prelude.{true, List, [], ◌++◌, Result, Ok, Err, ◌≡◌, ℕ, ◌*◌, ◌<◌, ◌≤◌, ℤ, pos, length, get_or, eqb}
 use Rattle.laws.specs.Choice.{pick}
 use Rattle.laws.specs.Tabulate.{tabulate}
 use Rattle.areas.specs.Lists.{over}
 use Rattle.rules.specs.Answers.{first_of}
 use Rattle.rules.specs.Bounds.{max_trades, max_contracts, max_price, max_multiplier, max_limit}
-use Rattle.rules.specs.Exchange.{Exchange, contract_at, holding_at, no_contract, no_trade}
+use Rattle.rules.specs.Codes.{code_in}
+use Rattle.rules.specs.declared.codes.Code.{Code}
+use Rattle.rules.specs.Exchange.{Exchange, place_of, contract_at, holding_at, no_contract, no_trade}
 use Rattle.rules.specs.Memory.{Declared, Memory, exchange_of, recorded_trades, used, WellFormedState, memory, trade_stride}
 use Rattle.rules.specs.Settlement.{settlement_price}
 use Rattle.rules.specs.declared.Account.{Account}
@@ -17,8 +19,7 @@ use Rattle.replaying.specs.Parts.{Booked}
 use Rattle.sections.specs.Sections.{holdings_bytes, in_row, section}
 use Rattle.clients.specs.Parts.{clients_with}
 use Rattle.clients.specs.Clients.{Clients, client_account, client_exchange, leg_count, starts_add_up, max_clients, client_places}
-use Rattle.statements.specs.Statement.{day_refusals, posted_refusals, profit_bytes, statement_of, trades_bytes}
-use Rattle.statements.specs.declared.Statement.{Statement}
+use Rattle.statements.specs.Statement.{day_refusals, posted_refusals, profit_bytes, statement_code, statement_of, trades_bytes}
 
 -- a state whose contracts can be priced, and whose accounts can be paid at those prices
 pub record ProfitsReady (s : State) (buys sells area : List ℕ) : Type 0 where
@@ -48,25 +49,6 @@ pub record Tellable (area : List ℕ) (count legs : ℕ) (accounts : List Accoun
 abbrev pub broker : ℕ → List ℕ → List ℕ → Clients
 broker clients starts postings = record { count = clients; starts = starts; postings = postings }
 
-abbrev pub refused_with : ℕ → Statement
-refused_with code = record { code = code; length = 0 }
-
--- a state with clients in place of its accounts
-abbrev pub client_state : State → List Account → ℕ → State
-client_state s accounts clients =
-    record {
-      contracts = s.contracts;
-      accounts = accounts;
-      buycounts = s.buycounts;
-      sellcounts = s.sellcounts;
-      contractcount = s.contractcount;
-      accountcount = clients;
-      tradecount = s.tradecount;
-      next = s.next;
-      nextstamp = s.nextstamp;
-      settlements = s.settlements;
-    }
-
 -- the clients' exchange as the code has it
 unfoldable pub clients_day : State → List ℕ → List ℕ → List ℕ → List ℕ → ℕ → Exchange
 clients_day s buys sells area starts clients =
@@ -79,13 +61,18 @@ clients_day s buys sells area starts clients =
       settlements = s.settlements;
     }
 
--- an answer, the code being given: the statement's length and the output area
-pub record AnswerIs (code : ℕ) (y : Exchange) (clients : ℕ) (out : List ℕ) (r : Statement) (out' : List ℕ) : Type 0 where
-  pub code_is : r.code ≡ code
-  pub length_is : r.length ≡ pick (eqb r.code 0) (length (statement_of y clients)) 0
-  pub out_is : out' ≡ pick (eqb r.code 0) (over out 0 (statement_of y clients)) out
+-- the length of the statement that is told, 0 where it is refused
+abbrev pub length_in : Result ℕ Code → ℕ
+length_in (Ok n) = n
+length_in (Err _) = 0
 
-abbrev pub ToldIs : Exchange → ℕ → List ℕ → Statement → List ℕ → Type 0
+-- an answer, the code being given: the statement's length and the output area
+pub record AnswerIs (code : ℕ) (y : Exchange) (clients : ℕ) (out : List ℕ) (r : Result ℕ Code) (out' : List ℕ) : Type 0 where
+  pub code_is : code_in r ≡ code
+  pub length_is : length_in r ≡ pick (eqb (code_in r) 0) (length (statement_of y clients)) 0
+  pub out_is : out' ≡ pick (eqb (code_in r) 0) (over out 0 (statement_of y clients)) out
+
+abbrev pub ToldIs : Exchange → ℕ → List ℕ → Result ℕ Code → List ℕ → Type 0
 ToldIs y clients out r out' = AnswerIs (first_of (day_refusals y clients (length out))) y clients out r out'
 
 -- all that the clients' day is worked out from
@@ -114,7 +101,12 @@ pub record Postable (s : State) (buys sells trades : List ℕ) (a clients : ℕ)
   pub few : clients ≤ max_clients
   pub adds : starts_add_up (exchange_of (memory s buys sells trades)) a (broker clients starts []) ≡ true
 
-abbrev pub PostedIs : Memory → ℕ → ℕ → List ℕ → List ℕ → List ℕ → Statement → List ℕ → Type 0
+abbrev pub PostedIs : Memory → ℕ → ℕ → List ℕ → List ℕ → List ℕ → Result ℕ Code → List ℕ → Type 0
 PostedIs m a clients starts postings out r out' =
     AnswerIs (first_of (posted_refusals (exchange_of m) a (broker clients starts postings) (length out)))
     (client_exchange (exchange_of m) a (broker clients starts postings)) clients out r out'
+
+-- the whole answer, as `StatementIs` has it but for what adds up
+abbrev pub StatedIs : Memory → ℕ → Clients → List ℕ → Result ℕ Code → List ℕ → Type 0
+StatedIs m account b out r out' =
+    AnswerIs (statement_code m account b (length out)) (client_exchange (exchange_of m) (place_of account) b) b.count out r out'

@@ -1,23 +1,13 @@
 // The account's day as its clients', on a well-formed state. For this crate: each function says what it requires.
-ghost use Rattle.std.specs.Prelude.{◌≡◌};
 ghost use Rattle.rules.specs.Memory.{memory};
-ghost use Rattle.statements.specs.Parts.{Brokered, Postable, PostedIs, ToldIs, client_state, clients_day};
+ghost use Rattle.statements.specs.Parts.{Brokered, Postable, PostedIs, ToldIs, clients_day};
 
-use crate::{Statement, profits, refused, writing};
-use rules::{Account, State};
+use crate::{profits, writing};
+use rules::State;
+use rules::codes::Code;
 
 // The counts of the three sections.
 const SECTION_COUNTS: usize = 3 * rules::COUNT_WIDTH;
-
-// The state with clients in place of its accounts.
-fn with_clients(state: State, accounts: [Account; rules::MAX_ACCOUNTS], clients: usize) -> State
-    ensures { result ≡ client_state state accounts clients }
-{
-    let mut s = state;
-    s.accounts = accounts;
-    s.accountcount = clients;
-    s
-}
 
 // The clients' day told; `area` has the trades with clients in the account's place, and `legs` of their legs are clients'.
 fn tell<'a>(
@@ -29,33 +19,43 @@ fn tell<'a>(
     clients: usize,
     legs: usize,
     out: &mut [u8],
-) -> Statement
+) -> Result<usize, Code>
     requires { Brokered state buys.now sells.now area.now starts.now clients legs }
     ensures { ToldIs (clients_day state buys.now sells.now area.now starts.now clients) clients out.old result out.new }
 {
     let accounts = clients::starts::client_accounts(starts, clients);
     let contracts = state.contractcount;
     let count = state.tradecount;
-    let held = replaying::replay(accounts, contracts, clients::CLIENT_PLACES, area, count);
-    if !held.covered {
-        return refused(27);
-    }
+    let Some(now) = replaying::replay(accounts, contracts, clients::CLIENT_PLACES, area, count)
+    else {
+        return Err(Code::ClientClosesTooMuch);
+    };
     let length = SECTION_COUNTS
         + writing::LEG_WIDTH * legs
         + sections::HOLDING_WIDTH * (clients * contracts)
         + writing::PROFIT_WIDTH * clients;
     if out.len() < length {
-        return refused(29);
+        return Err(Code::AreaTooShort);
     }
-    let s = with_clients(state, accounts, clients);
-    let books = profits::books(s, buys, sells, area);
-    let closing = books.closing;
-    let holding = books.holding;
-    let now = held.accounts;
+    // The state with clients in place of its accounts.
+    let day = State {
+        accounts,
+        accountcount: clients,
+        ..state
+    };
+    let books = profits::books(day, buys, sells, area);
     writing::put_statement(
-        out, area, count, legs, now, closing, holding, clients, contracts,
+        out,
+        area,
+        count,
+        legs,
+        now,
+        books.closing,
+        books.holding,
+        clients,
+        contracts,
     );
-    Statement { code: 0, length }
+    Ok(length)
 }
 
 // From the postings on: the account exists, and its clients' starting lots add up.
@@ -69,31 +69,27 @@ pub fn posted_statement<'a>(
     starts: &[u32],
     postings: &[u32],
     out: &mut [u8],
-) -> Statement
+) -> Result<usize, Code>
     requires { Postable state buys.now sells.now trades.now place clients starts.now }
     ensures { PostedIs (memory state buys.now sells.now trades.now) place clients starts.now postings.now out.old result out.new }
 {
-    let count = state.tradecount;
     let mut area = [0u32; rules::TRADES_WORDS];
-    let posting = clients::posting::post_trades(
+    let legs = clients::posting::post_trades(
         trades,
-        count,
+        state.tradecount,
         place,
         postings,
         clients,
         &mut area[..],
-    );
-    if !posting.all {
-        return refused(26);
-    }
-    let legs = posting.legs;
+    )
+    .ok_or(Code::OrderUnposted)?;
     tell(
         state,
         buys,
         sells,
         &area[..],
         starts,
-        laws::wide(clients),
+        clients as usize,
         legs,
         out,
     )

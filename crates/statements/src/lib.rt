@@ -2,13 +2,13 @@
 // profit told as bytes. The state and its areas are lent for reading only.
 #![tactic(auto)]
 
-ghost use Rattle.std.specs.Prelude.{◌≡◌};
 ghost use Rattle.rules.specs.Memory.{memory};
-ghost use Rattle.statements.specs.Parts.{broker, refused_with};
+ghost use Rattle.statements.specs.Parts.{broker, StatedIs};
 ghost use Rattle.statements.specs.Statement.{StatementIs};
 
 use engine::answers;
 use rules::State;
+use rules::codes::Code;
 
 mod broker;
 mod profits;
@@ -20,13 +20,6 @@ pub mod writing;
 pub struct Statement {
     pub code: u32,
     pub length: usize,
-}
-
-// "Nothing is then written."
-fn refused(code: u32) -> Statement
-    ensures { result ≡ refused_with code }
-{
-    Statement { code, length: 0 }
 }
 
 // A call for users: it answers on anything. `starts` has eight words for each client, long and short lots in each of four contracts;
@@ -44,21 +37,48 @@ pub fn client_statement<'a>(
 ) -> Statement
     ensures { StatementIs (memory state buys.now sells.now trades.now) account (broker clients starts.now postings.now) out.old result out.new }
 {
+    match stated(
+        state, buys, sells, trades, account, clients, starts, postings, out,
+    ) {
+        Ok(length) => Statement { code: 0, length },
+        Err(code) => Statement {
+            code: code.number(),
+            length: 0,
+        },
+    }
+}
+
+// The statement's length, or why it is refused: "Nothing is then written."
+fn stated<'a>(
+    state: State,
+    buys: &'a [u32],
+    sells: &'a [u32],
+    trades: &[u32],
+    account: u32,
+    clients: u32,
+    starts: &[u32],
+    postings: &[u32],
+    out: &mut [u8],
+) -> Result<usize, Code>
+    ensures { StatedIs (memory state buys.now sells.now trades.now) account (broker clients starts.now postings.now) out.old result out.new }
+{
     if !audit::well_formed(state, buys, sells, trades) {
-        return refused(21);
+        return Err(Code::StateNotWellFormed);
     }
     if answers::is_absent(account, state.accountcount) {
-        return refused(2);
+        return Err(Code::NoSuchAccount);
     }
     if clients::MAX_CLIENTS < clients {
-        return refused(25);
+        return Err(Code::ClientsDoNotFit);
     }
-    let place = laws::place_of(account);
-    let accounts = state.accounts;
-    let holder = accounts[place];
-    let holdings = holder.holdings;
-    if !clients::starts::add_up(starts, laws::wide(clients), holdings, state.contractcount) {
-        return refused(25);
+    let holder = state.accounts[laws::place_of(account)];
+    if !clients::starts::add_up(
+        starts,
+        clients as usize,
+        holder.holdings,
+        state.contractcount,
+    ) {
+        return Err(Code::ClientsDoNotFit);
     }
     broker::posted_statement(
         state,

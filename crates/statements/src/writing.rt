@@ -26,7 +26,7 @@ pub const PROFIT_WIDTH: usize = 16;
 fn mark(close: u32) -> u8
     ensures { result ≡ pick (eqb close 0) 0 1 }
 {
-    if close == 0 { 0 } else { 1 }
+    u8::from(close != 0)
 }
 
 // A leg of the client at a place.
@@ -87,11 +87,8 @@ fn put_trades(area: &[u32], count: usize, out: &mut [u8], at: usize) -> usize
     ensures { Written (length (statement.trades_bytes (recorded_trades area.now count))) out.old at (statement.trades_bytes (recorded_trades area.now count)) out.new result }
 {
     let mut next = at;
-    let mut i: usize = 0;
-    while i < count {
-        let t = trades::trade_at(area, i);
-        next = put_trade(out, next, t);
-        i += 1;
+    for i in 0..count {
+        next = put_trade(out, next, trades::trade_at(area, i));
     }
     next
 }
@@ -104,6 +101,7 @@ fn put_profit(out: &mut [u8], at: usize, closing: i64, holding: i64) -> usize
     put_u64(out, next, unsigned(holding))
 }
 
+// Closing and holding profit come in two arrays, as a settlement gives them.
 fn put_profits(
     out: &mut [u8],
     at: usize,
@@ -115,12 +113,8 @@ fn put_profits(
     ensures { Written (length (book_bytes closing holding clients)) out.old at (book_bytes closing holding clients) out.new result }
 {
     let mut next = at;
-    let mut k: usize = 0;
-    while k < clients {
-        let closed = closing[k];
-        let held = holding[k];
-        next = put_profit(out, next, closed, held);
-        k += 1;
+    for k in 0..clients {
+        next = put_profit(out, next, closing[k], holding[k]);
     }
     next
 }

@@ -2,21 +2,21 @@
 use mathlib.Core.Bool.{true}
 use mathlib.Core.List.{List}
 use mathlib.Core.Path.{◌≡◌, ap, ◌∙◌}
-use Prim.Native.Nat.{ℕ, zero, suc, ◌+◌, ◌*◌, ◌<◌, ◌≤◌}
+use Prim.Native.Nat.{ℕ, zero, suc, ◌+◌, ◌<◌, ◌≤◌}
 use native.Mathlib.Omega.{arith}
 use lib.IntN.{pos}
-use lib.ListN.{length, drop, get_or, replicate}
+use lib.ListN.{length, get_or, replicate}
 use Rattle.rules.specs.Bounds.{max_resting}
 use Rattle.book.specs.EarlyStop.{count_trades}
-use Rattle.rules.specs.Exchange.{no_order, no_holding, no_account, account_at, holding_at}
+use Rattle.rules.specs.Exchange.{no_holding, no_account, account_at, holding_at}
 use Rattle.rules.specs.Matching.{rest_lots, rested_lots, enter, sweep}
-use Rattle.rules.specs.Memory.{order_from, queue_in, order_stride, queue_stride, first_word}
+use Rattle.rules.specs.Memory.{queue_in, queue_stride}
 use Rattle.rules.specs.declared.Account.{Account}
 use Rattle.rules.specs.declared.Order.{Order}
 use Rattle.rules.specs.declared.PairingMethod.TheVariants.{Middle}
 use Rattle.rules.specs.declared.Taker.{Taker}
 use Rattle.rules.specs.declared.Trade.{Trade}
-use Rattle.theory.proofs.Codecs.{length_queue, order_at_lem, order_words_lem}
+use Rattle.theory.proofs.Codecs.{length_queue}
 use Rattle.book.proofs.EarlyStop.{trades_counted}
 use Rattle.theory.proofs.Queue.{length_rest_in}
 use Rattle.holdings.specs.Bounds.{HoldingWithin}
@@ -45,30 +45,17 @@ none_held b =
     nothing : HoldingWithin b no_holding
     nothing = record { long = omega arith; short = omega arith }
 
--- the queue of contract 0 begins with the area
-account_at_lem : (t : Taker) (opposite : List ℕ) (count : ℕ) → t.contract ≡ 0 → (i : ℕ) → i < count → (get_or (queue_in opposite t.contract count) i no_order).account ≡ get_or opposite (order_stride * i + 2) 0
-account_at_lem t opposite count contract i h =
-    let at : first_word t.contract i ≡ order_stride * i = omega arith in
-    ap (λ (o : Order). o.account)
-    (order_at_lem opposite t.contract count i h
-    ∙ ap (λ (k : ℕ). order_from (drop k opposite)) at
-    ∙ order_words_lem opposite (order_stride * i))
-
--- all that `enter` asks for, of an order that makes at most two trades
+-- all that `enter` asks for, of an order whose trades have room
 pub ready : {t : Taker} {lots price last : ℕ} {held : List Account} {own : List ℕ} {owncount : ℕ} {opposite : List ℕ} {count : ℕ} {area : List ℕ} {before : ℕ}
-    → t.contract ≡ 0 → t.method ≡ Middle → t.account ≤ 31 → lots ≤ 1000 → owncount ≤ 63 → count ≤ max_resting → before ≤ 8
+    → t.contract ≡ 0 → t.method ≡ Middle → t.account ≡ 0 → lots ≤ 1000 → owncount < max_resting → count ≤ max_resting
     → length own ≡ queue_stride → length opposite ≡ queue_stride → length area ≡ 90
-    → AccountsKnown opposite count → count_trades t lots (queue_in opposite 0 count) ≤ 2 → held ≡ no_holdings
+    → {queue : List Order} → queue ≡ queue_in opposite 0 count → AccountsKnown queue → before + count_trades t lots queue ≤ 10 → held ≡ no_holdings
     → EntryReady t lots price true last held own owncount opposite count area before
 unfolding enter
-ready {t} {lots} {price} {last} {own = own} {owncount = owncount} {opposite = opposite} {count = count} contract method account size few fewer early room opposite_room trade_room known two none =
+ready {t} {lots} {price} {last} {own = own} {owncount = owncount} {opposite = opposite} {count = count} {before = before} contract method account size few fewer room opposite_room trade_room {queue} eq known recorded none =
     let trades : List Trade = (sweep t lots last (queue_in opposite t.contract count)).trades in
-    let made : length trades ≤ 2
-    = omega (
-      arith,
-      trades_counted t lots last (queue_in opposite t.contract count),
-      ap (λ (c : ℕ). count_trades t lots (queue_in opposite c count)) contract,
-    ) in
+    let same : queue ≡ queue_in opposite t.contract count = eq ∙ rw contract in
+    let made : before + length trades ≤ 10 = omega (arith, trades_counted t lots last (queue_in opposite t.contract count), ap (count_trades t lots) same) in
     record {
       sweeps =
           record {
@@ -82,7 +69,7 @@ ready {t} {lots} {price} {last} {own = own} {owncount = owncount} {opposite = op
                   used = 32;
                   few = omega arith;
                   taker = omega arith;
-                  resting = λ i h. omega (arith, account_at_lem t opposite count contract i h, known.each i h);
+                  resting = λ i h. rw (← same) (known.each i (rw (same, length_queue) h));
                   holdings = record { each = λ a h. rw none (none_held 1_000_000 a t.contract) };
                 };
           };

@@ -2,25 +2,46 @@
 // it trades and rests is printed, and at the end what stands in the book.
 #![tactic(auto)]
 
-ghost use Rattle.std.specs.Prelude.{true, ◌≡◌, ◌≤◌};
-ghost use Rattle.rules.specs.Bounds.{max_resting};
+ghost use Rattle.std.specs.Prelude.{true, ◌≡◌};
 ghost use Rattle.rules.specs.declared.PairingMethod.TheVariants.{Middle};
 ghost use Rattle.test_book.specs.Known.{AccountsKnown, no_holdings};
 
-use book::{queue, scan, trades};
+use book::orders::Queue;
+use book::trades;
 use matching::entry;
 use matching::entry::Entry;
 use rules::{Account, Holding, PairingMethod, PriceCondition, Taker};
 
-// What stands in the book: orders on either side, trades of the day, the last price.
+const STDOUT_FILENO: i32 = 1;
+
+// The trades that there is room for.
+const TRADES: usize = 10;
+
+const TRADES_WORDS: usize = rules::TRADE_STRIDE * TRADES;
+
+// A side of the book: the places of its orders, and how many orders stand there. An array and a count, here and below: no heap.
 #[derive(Clone, Copy)]
-struct Standing {
-    buycount: usize,
-    sellcount: usize,
-    tradecount: usize,
+struct Side {
+    area: [u32; rules::QUEUE_STRIDE],
+    count: usize,
+}
+
+// The trades of the day, and the last price.
+#[derive(Clone, Copy)]
+struct Day {
+    area: [u32; TRADES_WORDS],
+    count: usize,
     last: u32,
 }
 
+#[derive(Clone, Copy)]
+struct Book {
+    buys: Side,
+    sells: Side,
+    day: Day,
+}
+
+#[tactic(auto, unfolding(crate::specs::Known::no_holdings))]
 fn no_holdings() -> [Account; rules::MAX_ACCOUNTS]
     ensures { result ≡ no_holdings }
 {
@@ -40,7 +61,9 @@ fn no_holdings() -> [Account; rules::MAX_ACCOUNTS]
 
 // A limit order of account 0 in contract 0, paired by the middle price.
 fn limit_order(sell: bool, number: u32, limit: u32) -> Taker
-    ensures { result.method ≡ Middle }
+    ensures contract { result.contract ≡ 0 }
+    ensures account { result.account ≡ 0 }
+    ensures method { result.method ≡ Middle }
 {
     Taker {
         account: 0,
@@ -57,225 +80,171 @@ fn limit_order(sell: bool, number: u32, limit: u32) -> Taker
 }
 
 // Whether every order of a queue is of an account that there is room for.
-fn accounts_known(area: &[u32; rules::QUEUE_STRIDE], count: usize) -> bool
-    requires { count ≤ max_resting }
-    ensures { result ≡ true → AccountsKnown area.now count }
+fn accounts_known(queue: &Queue<'_>) -> bool
+    ensures { result ≡ true → AccountsKnown queue.now }
 {
-    let mut i: usize = 0;
-    while i < count {
-        let at = rules::ORDER_STRIDE * i + 2;
-        if area[at] >= 32 {
+    for i in 0..queue.len() {
+        if queue.order(i).account as usize >= rules::MAX_ACCOUNTS {
             return false;
         }
-        i += 1;
     }
     true
 }
 
-fn nothing() -> Entry {
-    let held = no_holdings();
-    Entry {
-        traded: 0,
-        rested: 0,
-        own: 0,
-        opposite: 0,
-        made: 0,
-        last: 0,
-        accounts: held,
-    }
-}
-
 // Enters a good-for-day limit order, where all that `enter` asks for holds.
 fn submit(
-    own: &mut [u32; rules::QUEUE_STRIDE],
-    owncount: usize,
-    opposite: &mut [u32; rules::QUEUE_STRIDE],
-    oppositecount: usize,
-    area: &mut [u32; 90],
-    before: usize,
-    t: Taker,
+    own: &mut Side,
+    opposite: &mut Side,
+    day: &mut Day,
+    sell: bool,
+    number: u32,
     lots: u32,
     price: u32,
-    last: u32,
-) -> Entry
-    requires { t.method ≡ Middle }
-{
-    if t.contract != 0 || t.account > 31 || lots > rules::MAX_LOTS {
-        return nothing();
+) -> Option<Entry> {
+    let owncount = own.count;
+    let oppositecount = opposite.count;
+    let before = day.count;
+    if lots > rules::MAX_LOTS || owncount >= rules::MAX_RESTING {
+        return None;
     }
-    if owncount > 63 || oppositecount > rules::MAX_RESTING || before > 8 {
-        return nothing();
+    if oppositecount > rules::MAX_RESTING || before > TRADES {
+        return None;
     }
-    if !accounts_known(opposite, oppositecount) {
-        return nothing();
+    let queue = Queue::new(&opposite.area, 0, oppositecount);
+    if !accounts_known(&queue) {
+        return None;
     }
-    let new = scan::count_trades(opposite, 0, oppositecount, t, lots);
-    if new > 2 {
-        return nothing();
+    let t = limit_order(sell, number, price);
+    let new = queue.count_trades(t, lots);
+    if new > TRADES - before {
+        return None;
     }
-    let held = no_holdings();
-    entry::enter(
-        own,
+    let last = day.last;
+    let e = entry::enter(
+        &mut own.area,
         owncount,
-        opposite,
+        &mut opposite.area,
         oppositecount,
-        area,
+        &mut day.area,
         before,
         t,
         lots,
         price,
         true,
         last,
-        held,
-    )
+        no_holdings(),
+    );
+    own.count = e.own;
+    opposite.count = e.opposite;
+    day.count = e.made;
+    day.last = e.last;
+    Some(e)
 }
 
 fn print(word: &[u8], n: u64) {
-    io::write_all(1, word);
-    io::print_decimal(1, n);
+    io::write_all(STDOUT_FILENO, word);
+    io::print_decimal(STDOUT_FILENO, n);
 }
 
 fn print_lots(lots: u32, price: u32) {
-    print(b" ", laws::wide64(lots));
-    print(b" at ", laws::wide64(price));
+    print(b" ", u64::from(lots));
+    print(b" at ", u64::from(price));
 }
 
-fn print_entry(e: Entry, sell: bool, lots: u32, price: u32) {
-    if sell {
-        io::write_all(1, b"sell");
-    } else {
-        io::write_all(1, b"buy");
-    }
-    print_lots(lots, price);
-    print(b": traded ", laws::wide64(e.traded));
-    print(b", rested ", laws::wide64(e.rested));
-    print(b", last price ", laws::wide64(e.last));
-    io::write_all(1, b"\n");
-}
-
-fn order(
-    buys: &mut [u32; rules::QUEUE_STRIDE],
-    sells: &mut [u32; rules::QUEUE_STRIDE],
-    area: &mut [u32; 90],
-    s: Standing,
-    number: u32,
-    sell: bool,
-    lots: u32,
-    price: u32,
-) -> Standing {
-    let t = limit_order(sell, number, price);
-    if sell {
-        let e = submit(
-            sells,
-            s.sellcount,
-            buys,
-            s.buycount,
-            area,
-            s.tradecount,
-            t,
+fn order(book: &mut Book, number: u32, sell: bool, lots: u32, price: u32) {
+    let entered = if sell {
+        io::write_all(STDOUT_FILENO, b"sell");
+        submit(
+            &mut book.sells,
+            &mut book.buys,
+            &mut book.day,
+            sell,
+            number,
             lots,
             price,
-            s.last,
-        );
-        print_entry(e, sell, lots, price);
-        return Standing {
-            buycount: e.opposite,
-            sellcount: e.own,
-            tradecount: e.made,
-            last: e.last,
-        };
+        )
+    } else {
+        io::write_all(STDOUT_FILENO, b"buy");
+        submit(
+            &mut book.buys,
+            &mut book.sells,
+            &mut book.day,
+            sell,
+            number,
+            lots,
+            price,
+        )
+    };
+    print_lots(lots, price);
+    if let Some(e) = entered {
+        print(b": traded ", u64::from(e.traded));
+        print(b", rested ", u64::from(e.rested));
+        print(b", last price ", u64::from(e.last));
     }
-    let e = submit(
-        buys,
-        s.buycount,
-        sells,
-        s.sellcount,
-        area,
-        s.tradecount,
-        t,
-        lots,
-        price,
-        s.last,
-    );
-    print_entry(e, sell, lots, price);
-    Standing {
-        buycount: e.own,
-        sellcount: e.opposite,
-        tradecount: e.made,
-        last: e.last,
-    }
+    io::write_all(STDOUT_FILENO, b"\n");
 }
 
 // The lots that a buy at a limit could be filled with.
-fn fillable(area: &[u32; rules::QUEUE_STRIDE], count: usize, limit: u32) -> u64 {
-    if count > rules::MAX_RESTING {
+#[tactic(auto, using(theory::proofs::Codecs::length_queue))]
+fn fillable(sells: &Side, limit: u32) -> u64 {
+    if sells.count > rules::MAX_RESTING {
         return 0;
     }
-    let t = limit_order(false, 1, limit);
-    scan::fillable_front(area, 0, count, t)
+    let queue = Queue::new(&sells.area, 0, sells.count);
+    queue.fillable_front(limit_order(false, 1, limit))
 }
 
-fn print_queue(area: &[u32; rules::QUEUE_STRIDE], count: usize) {
-    if count > rules::MAX_RESTING {
-        return;
-    }
-    let mut i: usize = 0;
-    while i < count {
-        let o = queue::order_at(area, 0, i);
+fn print_queue(side: &Side) {
+    let queue = Queue::new(&side.area, 0, side.count.min(rules::MAX_RESTING));
+    for i in 0..queue.len() {
+        let o = queue.order(i);
         print_lots(o.lots, o.price);
-        i += 1;
     }
 }
 
-fn print_trades(area: &[u32; 90], count: usize) {
-    if count > 10 {
-        return;
-    }
-    let mut i: usize = 0;
-    while i < count {
-        let t = trades::trade_at(area, i);
+fn print_trades(day: &Day) {
+    for i in 0..day.count.min(TRADES) {
+        let t = trades::trade_at(&day.area, i);
         print_lots(t.lots, t.price);
-        i += 1;
     }
 }
 
 // The book before the example's orders.
-fn fill(
-    buys: &mut [u32; rules::QUEUE_STRIDE],
-    sells: &mut [u32; rules::QUEUE_STRIDE],
-    area: &mut [u32; 90],
-    empty: Standing,
-) -> Standing {
-    let mut s = order(buys, sells, area, empty, 1, true, 5, 111);
-    s = order(buys, sells, area, s, 2, true, 7, 110);
-    s = order(buys, sells, area, s, 3, false, 20, 106);
-    s = order(buys, sells, area, s, 4, false, 10, 109);
-    s = order(buys, sells, area, s, 5, false, 15, 109);
-    s = order(buys, sells, area, s, 6, false, 7, 107);
-    order(buys, sells, area, s, 7, false, 5, 108)
+fn fill(book: &mut Book) {
+    order(book, 1, true, 5, 111);
+    order(book, 2, true, 7, 110);
+    order(book, 3, false, 20, 106);
+    order(book, 4, false, 10, 109);
+    order(book, 5, false, 15, 109);
+    order(book, 6, false, 7, 107);
+    order(book, 7, false, 5, 108);
 }
 
 fn main() {
-    let mut buys = [0u32; rules::QUEUE_STRIDE];
-    let mut sells = [0u32; rules::QUEUE_STRIDE];
-    let mut area = [0u32; 90];
-    let empty = Standing {
-        buycount: 0,
-        sellcount: 0,
-        tradecount: 0,
-        last: 109,
+    let empty = Side {
+        area: [0; rules::QUEUE_STRIDE],
+        count: 0,
     };
-    let mut s = fill(&mut buys, &mut sells, &mut area, empty);
-    print(b"fillable at 111: ", fillable(&sells, s.sellcount, 111));
-    print(b"\nfillable at 110: ", fillable(&sells, s.sellcount, 110));
-    io::write_all(1, b"\n");
-    s = order(&mut buys, &mut sells, &mut area, s, 8, false, 7, 110);
-    s = order(&mut buys, &mut sells, &mut area, s, 9, false, 8, 112);
-    io::write_all(1, b"buys:");
-    print_queue(&buys, s.buycount);
-    io::write_all(1, b"\nsells:");
-    print_queue(&sells, s.sellcount);
-    io::write_all(1, b"\ntrades:");
-    print_trades(&area, s.tradecount);
-    io::write_all(1, b"\n");
+    let mut book = Book {
+        buys: empty,
+        sells: empty,
+        day: Day {
+            area: [0; TRADES_WORDS],
+            count: 0,
+            last: 109,
+        },
+    };
+    fill(&mut book);
+    print(b"fillable at 111: ", fillable(&book.sells, 111));
+    print(b"\nfillable at 110: ", fillable(&book.sells, 110));
+    io::write_all(STDOUT_FILENO, b"\n");
+    order(&mut book, 8, false, 7, 110);
+    order(&mut book, 9, false, 8, 112);
+    io::write_all(STDOUT_FILENO, b"buys:");
+    print_queue(&book.buys);
+    io::write_all(STDOUT_FILENO, b"\nsells:");
+    print_queue(&book.sells);
+    io::write_all(STDOUT_FILENO, b"\ntrades:");
+    print_trades(&book.day);
+    io::write_all(STDOUT_FILENO, b"\n");
 }

@@ -32,14 +32,13 @@
 //   29  a maker with a balance of 10^18 + 1
 #![tactic(auto)]
 
-ghost use Rattle.std.specs.Prelude.{true, ◌≡◌, ◌<◌, ◌≤◌, length};
-ghost use Rattle.rules.specs.DayFile.{sound};
+ghost use Rattle.std.specs.Prelude.{◌<◌};
 
+use dayfile::file::{SoundFile, commands_in, first_command, record_of};
 use lines::line::{put_account, put_answer, put_broken, put_price, put_trade};
 use rules::{Answer, Command, Trade};
-use std::fs::File;
-use std::os::fd::AsRawFd;
 use std::str;
+use test_files::read_named;
 
 const STDOUT_FILENO: i32 = 1;
 
@@ -49,65 +48,42 @@ fn say(byte: u8) {
 
 fn say_kind(command: Command) {
     say(b' ');
-    io::print_decimal(STDOUT_FILENO, commands::kind_of(command) as u64);
+    io::print_decimal(STDOUT_FILENO, u64::from(commands::kind_of(command)));
 }
 
-fn say_commands(file: &[u8])
-    requires { sound file.now ≡ true }
-{
-    let n = dayfile::file::commands_in(file);
-    let first = dayfile::file::first_command(file);
+fn say_commands(file: &SoundFile<'_>) {
+    let n = commands_in(file);
+    let first = first_command(file);
     io::write_all(STDOUT_FILENO, b"sound ");
     io::print_decimal(STDOUT_FILENO, n as u64);
     say(b':');
-    let mut k = 0;
-    while k < n {
-        let r = dayfile::file::record_of(file, first, k);
+    for k in 0..n {
+        let r = record_of(file, first, k);
         say_kind(commands::command_of(r));
-        k += 1;
     }
 }
 
 fn say_verdict(file: &[u8]) {
-    if dayfile::file::sound(file) {
-        say_commands(file);
+    if let Some(sound) = SoundFile::of(file) {
+        say_commands(&sound);
     } else {
         io::write_all(STDOUT_FILENO, b"broken");
     }
     say(b'\n');
 }
 
-// What the file of that name holds, as far as there is room for it; nothing where it cannot be read. How much that is.
-fn read_named(rt: &HostRuntime, name: &[u8], file: &mut [u8]) -> usize
-    ensures { result ≤ length file.new }
-{
-    let Ok(name) = str::from_utf8(name) else {
-        return 0;
-    };
-    let Ok(open) = File::open(rt, name) else {
-        return 0;
-    };
-    io::read_full(open.as_raw_fd(), file)
-}
-
 fn run_case(rt: &HostRuntime, i: u8)
     requires { i < 100 }
 {
-    let name = [b'0' + i / 10, b'0' + i % 10];
-    io::write_all(STDOUT_FILENO, &name);
+    let digits = [b'0' + i / 10, b'0' + i % 10];
+    io::write_all(STDOUT_FILENO, &digits);
     say(b' ');
-    let mut file = [0u8; 4096];
-    let n = read_named(rt, &name, &mut file);
-    say_verdict(&file[..n]);
+    let name = str::from_utf8(&digits).unwrap_or("");
+    let mut area = [0u8; 4096];
+    say_verdict(read_named(rt, name, &mut area));
 }
 
-// Writes the first n bytes.
-fn write_first(all: &[u8], n: usize) {
-    if n <= all.len() {
-        io::write_all(STDOUT_FILENO, &all[..n]);
-    }
-}
-
+// A line of each kind; code 21 is a number here, as a line has it.
 fn say_lines() {
     let mut out = [0u8; 512];
     let answer = Answer {
@@ -140,14 +116,14 @@ fn say_lines() {
         10000000000000000000,
     );
     let x = put_broken(&mut out, b);
-    write_first(&out, x);
+    if let Some(written) = out.get(..x) {
+        io::write_all(STDOUT_FILENO, written);
+    }
 }
 
 fn main(rt: HostRuntime) {
-    let mut i: u8 = 1;
-    while i < 30 {
+    for i in 1..30 {
         run_case(&rt, i);
-        i += 1;
     }
     say_lines();
 }

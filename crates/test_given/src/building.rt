@@ -1,29 +1,54 @@
 // The state and the areas that a vector tells: a filling, and edits of it (`tools/model/vectors.py`, `tools/model/memory.py`).
 ghost use Rattle.std.specs.Prelude.{◌≤◌};
 
-use crate::reading;
+use crate::reading::{Reader, narrowed, put, signed};
 use rules::{Account, Contract, Holding, State};
 
-// The words of a record, one for each of its fields in the order in which they are declared.
-pub const ORDER_WORDS: usize = rules::ORDER_STRIDE;
+const QUEUES: usize = 3360;
 
-// The place of the stamp among an order's words.
-const STAMP_FIELD: usize = rules::STAMP_WORD;
+const TRADES: usize = 9300;
 
-pub const TRADE_WORDS: usize = rules::TRADE_STRIDE;
+const ANSWERS: usize = 500;
 
-pub const ANSWER_WORDS: usize = rules::ANSWER_STRIDE;
+// The word that a filling begins with.
+const FILLING: u32 = 2779096485;
 
-// Where the areas begin in the one that holds them all, and how many words each may have.
-pub const BUYS: usize = 0;
+// The lent areas, each with all the words that a vector may lend of it.
+#[derive(Clone, Copy, PartialEq, Eq)]
+pub struct Areas {
+    pub buys: [u32; QUEUES],
+    pub sells: [u32; QUEUES],
+    pub trades: [u32; TRADES],
+    pub answers: [u32; ANSWERS],
+}
 
-pub const SELLS: usize = 3360;
+impl Areas {
+    // "every word of an area has one of its own"
+    pub fn filled() -> Areas {
+        let mut areas = Areas {
+            buys: [0; QUEUES],
+            sells: [0; QUEUES],
+            trades: [0; TRADES],
+            answers: [0; ANSWERS],
+        };
+        let mut next = FILLING;
+        next = fill(&mut areas.buys, next);
+        next = fill(&mut areas.sells, next);
+        next = fill(&mut areas.trades, next);
+        fill(&mut areas.answers, next);
+        areas
+    }
+}
 
-pub const TRADES: usize = 6720;
-
-pub const ANSWERS: usize = 16020;
-
-pub const ALL: usize = 16520;
+// The word behind the last one of the filling.
+fn fill(area: &mut [u32], first: u32) -> u32 {
+    let mut word = first;
+    for place in area.iter_mut() {
+        *place = word;
+        word = word.wrapping_add(1);
+    }
+    word
+}
 
 // How many words of each area are lent.
 #[derive(Clone, Copy)]
@@ -34,31 +59,36 @@ pub struct Lengths {
     pub answers: usize,
 }
 
-// What a vector gives, and where it goes on.
+// What a vector gives.
 #[derive(Clone, Copy)]
 pub struct Given {
     pub state: State,
+    pub areas: Areas,
     pub lengths: Lengths,
-    pub next: usize,
 }
 
-// "every word of an area has one of its own"
-fn fill(area: &mut [u32]) {
-    let mut word: u32 = 2779096485;
-    let mut k = 0;
-    while k < area.len() {
-        reading::put_word(area, k, word);
-        word = std::num::wrapping_add_u32(word, 1);
-        k += 1;
+impl Given {
+    // A filled state, filled areas, and no words lent.
+    pub fn filled() -> Given {
+        Given {
+            state: filling(),
+            areas: Areas::filled(),
+            lengths: Lengths {
+                buys: 0,
+                sells: 0,
+                trades: 0,
+                answers: 0,
+            },
+        }
     }
 }
 
 fn filling() -> State {
     let holding = Holding {
-        long: 2779096485,
-        short: 2779096485,
-        startlong: 2779096485,
-        startshort: 2779096485,
+        long: FILLING,
+        short: FILLING,
+        startlong: FILLING,
+        startshort: FILLING,
     };
     let account = Account {
         balance: -4611686018427387904,
@@ -66,15 +96,15 @@ fn filling() -> State {
         maker: 1,
     };
     let contract = Contract {
-        multiplier: 2779096485,
-        tick: 2779096485,
-        reference: 2779096485,
-        band: 2779096485,
-        limit: 2779096485,
+        multiplier: FILLING,
+        tick: FILLING,
+        reference: FILLING,
+        band: FILLING,
+        limit: FILLING,
         rate: 42405,
         method: 42405,
-        phase: 2779096485,
-        last: 2779096485,
+        phase: FILLING,
+        last: FILLING,
     };
     State {
         contracts: [contract; rules::MAX_CONTRACTS],
@@ -90,294 +120,194 @@ fn filling() -> State {
     }
 }
 
+// What an edit writes.
+enum Edit {
+    Counts,
+    Lengths,
+    Contract,
+    Queues,
+    Account,
+    Holding,
+    Buys,
+    Sells,
+    Trades,
+    Answers,
+}
+
+impl Edit {
+    // The edit of a number.
+    fn from_number(number: u64) -> Option<Edit> {
+        match number {
+            0 => Some(Edit::Counts),
+            1 => Some(Edit::Lengths),
+            2 => Some(Edit::Contract),
+            3 => Some(Edit::Queues),
+            4 => Some(Edit::Account),
+            5 => Some(Edit::Holding),
+            6 => Some(Edit::Buys),
+            7 => Some(Edit::Sells),
+            8 => Some(Edit::Trades),
+            9 => Some(Edit::Answers),
+            _ => None,
+        }
+    }
+}
+
 // "0 counts: contracts, accounts, trades, next order number, next stamp, settlements"
-fn with_counts(state: State, v: [u64; 16]) -> State {
-    let mut s = state;
-    s.contractcount = reading::size(v[0]);
-    s.accountcount = reading::size(v[1]);
-    s.tradecount = reading::size(v[2]);
-    s.next = reading::word(v[3]);
-    s.nextstamp = reading::word(v[4]);
-    s.settlements = reading::word(v[5]);
-    s
+fn put_counts(vector: &mut Reader, state: &mut State) {
+    let [contracts, accounts, trades, next, nextstamp, settlements] = vector.numbers::<6>();
+    state.contractcount = contracts as usize;
+    state.accountcount = accounts as usize;
+    state.tradecount = trades as usize;
+    state.next = narrowed(next);
+    state.nextstamp = narrowed(nextstamp);
+    state.settlements = narrowed(settlements);
 }
 
 // "as many records as it is long, and words more (may be negative)"
-fn area_length(width: usize, records: u64, more: u64) -> usize {
-    let whole = reading::times(reading::size(records), width);
-    let words = reading::size(more / 2);
-    if more % 2 == 0 {
-        return reading::sum(whole, words);
+fn area_length(vector: &mut Reader, width: usize) -> usize {
+    let [records, more] = vector.numbers::<2>();
+    let whole = width.saturating_mul(records as usize);
+    let words = signed(more);
+    let apart = words.unsigned_abs() as usize;
+    if words < 0 {
+        whole.saturating_sub(apart)
+    } else {
+        whole.saturating_add(apart)
     }
-    if words < whole {
-        return whole - words - 1;
-    }
-    0
 }
 
 // "1 areas: for the areas of buys, sells, trades and answers"
-fn lengths_in(v: [u64; 16]) -> Lengths {
+fn read_lengths(vector: &mut Reader) -> Lengths {
     Lengths {
-        buys: area_length(ORDER_WORDS, v[0], v[1]),
-        sells: area_length(ORDER_WORDS, v[2], v[3]),
-        trades: area_length(TRADE_WORDS, v[4], v[5]),
-        answers: area_length(ANSWER_WORDS, v[6], v[7]),
+        buys: area_length(vector, rules::ORDER_STRIDE),
+        sells: area_length(vector, rules::ORDER_STRIDE),
+        trades: area_length(vector, rules::TRADE_STRIDE),
+        answers: area_length(vector, rules::ANSWER_STRIDE),
     }
 }
 
 // "2 contract: place, its fields"
-fn with_contract(state: State, v: [u64; 16]) -> State {
-    let place = reading::size(v[0]);
-    let contract = Contract {
-        multiplier: reading::word(v[1]),
-        tick: reading::word(v[2]),
-        reference: reading::word(v[3]),
-        band: reading::word(v[4]),
-        limit: reading::word(v[5]),
-        rate: reading::half(v[6]),
-        method: reading::half(v[7]),
-        phase: reading::word(v[8]),
-        last: reading::word(v[9]),
-    };
-    let mut s = state;
-    if place < rules::MAX_CONTRACTS {
-        s.contracts[place] = contract;
+fn put_contract(vector: &mut Reader, state: &mut State) {
+    let [
+        place,
+        multiplier,
+        tick,
+        reference,
+        band,
+        limit,
+        rate,
+        method,
+        phase,
+        last,
+    ] = vector.numbers::<10>();
+    if let Some(contract) = state.contracts.get_mut(place as usize) {
+        *contract = Contract {
+            multiplier: narrowed(multiplier),
+            tick: narrowed(tick),
+            reference: narrowed(reference),
+            band: narrowed(band),
+            limit: narrowed(limit),
+            rate: narrowed(rate),
+            method: narrowed(method),
+            phase: narrowed(phase),
+            last: narrowed(last),
+        };
     }
-    s
 }
 
 // "3 queues: place of the contract, count of buys, count of sells"
-fn with_queues(state: State, v: [u64; 16]) -> State {
-    let place = reading::size(v[0]);
-    let mut s = state;
-    if place < rules::MAX_CONTRACTS {
-        s.buycounts[place] = reading::size(v[1]);
-        s.sellcounts[place] = reading::size(v[2]);
+fn put_queues(vector: &mut Reader, state: &mut State) {
+    let [place, buys, sells] = vector.numbers::<3>();
+    if let Some(count) = state.buycounts.get_mut(place as usize) {
+        *count = buys as usize;
     }
-    s
+    if let Some(count) = state.sellcounts.get_mut(place as usize) {
+        *count = sells as usize;
+    }
 }
 
 // "4 account: place, balance (may be negative), maker mark"
-fn with_account(state: State, v: [u64; 16]) -> State {
-    let place = reading::size(v[0]);
-    let balance = reading::signed(v[1]);
-    let mut s = state;
-    if place < rules::MAX_ACCOUNTS {
-        let mut account = s.accounts[place];
-        account.balance = balance;
-        account.maker = v[2];
-        s.accounts[place] = account;
+fn put_account(vector: &mut Reader, state: &mut State) {
+    let [place, balance, maker] = vector.numbers::<3>();
+    if let Some(account) = state.accounts.get_mut(place as usize) {
+        account.balance = signed(balance);
+        account.maker = maker;
     }
-    s
 }
 
 // "5 holding: place of the account, place of the contract, its fields"
-fn with_holding(state: State, v: [u64; 16]) -> State {
-    let place = reading::size(v[0]);
-    let contract = reading::size(v[1]);
-    let holding = Holding {
-        long: reading::word(v[2]),
-        short: reading::word(v[3]),
-        startlong: reading::word(v[4]),
-        startshort: reading::word(v[5]),
-    };
-    let mut s = state;
-    if place < rules::MAX_ACCOUNTS {
-        if contract < rules::MAX_CONTRACTS {
-            let mut account = s.accounts[place];
-            account.holdings[contract] = holding;
-            s.accounts[place] = account;
+fn put_holding(vector: &mut Reader, state: &mut State) {
+    let [place, contract, long, short, startlong, startshort] = vector.numbers::<6>();
+    if let Some(account) = state.accounts.get_mut(place as usize) {
+        if let Some(holding) = account.holdings.get_mut(contract as usize) {
+            *holding = Holding {
+                long: narrowed(long),
+                short: narrowed(short),
+                startlong: narrowed(startlong),
+                startshort: narrowed(startshort),
+            };
         }
     }
-    s
 }
 
-fn value(v: [u64; 16], k: usize) -> u64 {
-    if k < 16 {
-        return v[k];
-    }
-    0
-}
-
-// The fields that are higher in each further record: the second, and of orders the stamp too.
-fn rises(width: usize, field: usize) -> bool {
-    if field == 1 {
-        return true;
-    }
-    width == ORDER_WORDS && field == STAMP_FIELD
-}
-
-fn word_of(first: u32, width: usize, field: usize, risen: u32) -> u32 {
-    if rises(width, field) {
-        return std::num::wrapping_add_u32(first, risen);
-    }
-    first
-}
-
-// "first place in the area, count, step, the fields of the first record; of further records the second field, and of orders the
-// stamp, are higher by the step"
-fn put_records(area: &mut [u32], base: usize, width: usize, v: [u64; 16]) {
-    let step = reading::word(v[2]);
-    let mut at = reading::sum(base, reading::times(reading::size(v[0]), width));
-    let end = reading::sum(at, reading::times(reading::size(v[1]), width));
-    let mut field = 0;
-    let mut risen: u32 = 0;
-    while at < end {
-        let first = reading::word(value(v, reading::sum(3, field)));
-        reading::put_word(area, at, word_of(first, width, field, risen));
-        field = reading::sum(field, 1);
-        if field >= width {
-            field = 0;
-            risen = std::num::wrapping_add_u32(risen, step);
-        }
-        at += 1;
-    }
-}
-
-// How many numbers an edit has.
-fn numbers_of(kind: u64) -> usize
-    ensures { result ≤ 16 }
+// "first place in the area, count, step, the fields of the first record"; of each further record the fields at `rising` are higher by
+// the step.
+fn put_records<const WIDTH: usize>(vector: &mut Reader, area: &mut [u32], rising: &[usize])
+    requires { WIDTH ≤ 16 }
 {
-    match kind {
-        0 => 6,
-        1 => 8,
-        2 => 10,
-        3 => 3,
-        4 => 3,
-        5 => 6,
-        6 => 3 + ORDER_WORDS,
-        7 => 3 + ORDER_WORDS,
-        8 => 3 + TRADE_WORDS,
-        _ => 3 + ANSWER_WORDS,
-    }
-}
-
-fn edited_state(state: State, kind: u64, v: [u64; 16]) -> State {
-    match kind {
-        0 => with_counts(state, v),
-        2 => with_contract(state, v),
-        3 => with_queues(state, v),
-        4 => with_account(state, v),
-        5 => with_holding(state, v),
-        _ => state,
-    }
-}
-
-fn base_of(kind: u64) -> usize {
-    match kind {
-        6 => BUYS,
-        7 => SELLS,
-        8 => TRADES,
-        _ => ANSWERS,
-    }
-}
-
-fn width_of(kind: u64) -> usize {
-    match kind {
-        8 => TRADE_WORDS,
-        9 => ANSWER_WORDS,
-        _ => ORDER_WORDS,
-    }
-}
-
-fn edit_areas(area: &mut [u32], kind: u64, v: [u64; 16]) {
-    if kind < 6 {
-        return;
-    }
-    put_records(area, base_of(kind), width_of(kind), v);
-}
-
-fn edited_lengths(lengths: Lengths, kind: u64, v: [u64; 16]) -> Lengths {
-    if kind == 1 {
-        return lengths_in(v);
-    }
-    lengths
-}
-
-// "count of edits, then each edit"
-pub fn edit(file: &[u8], at: usize, given: Given, area: &mut [u32; ALL]) -> Given {
-    let edits = reading::number(file, at);
-    let count = edits.value;
-    let mut next = edits.next;
-    let mut state = given.state;
-    let mut lengths = given.lengths;
-    let mut k: u64 = 0;
-    while k < count {
-        k += 1;
-        let kind = reading::number(file, next);
-        let row = reading::numbers(file, kind.next, numbers_of(kind.value));
-        let values = row.values;
-        state = edited_state(state, kind.value, values);
-        lengths = edited_lengths(lengths, kind.value, values);
-        edit_areas(area, kind.value, values);
-        next = row.next;
-    }
-    Given {
-        state,
-        lengths,
-        next,
-    }
-}
-
-// A filled state, of which no words are lent.
-fn filled() -> Given {
-    let state = filling();
-    let lengths = Lengths {
-        buys: 0,
-        sells: 0,
-        trades: 0,
-        answers: 0,
-    };
-    Given {
-        state,
-        lengths,
-        next: 0,
-    }
-}
-
-// The filling, and the edits of it that stand at `at`.
-pub fn build(file: &[u8], at: usize, area: &mut [u32; ALL]) -> Given {
-    fill(area);
-    edit(file, at, filled(), area)
-}
-
-// The words of one area out of the one that holds them all.
-pub fn copy_out(all: &[u32; ALL], base: usize, area: &mut [u32]) {
-    let mut k = 0;
-    while k < area.len() {
-        reading::put_word(area, k, word_at(all, reading::sum(base, k)));
-        k += 1;
-    }
-}
-
-fn word_at(all: &[u32; ALL], at: usize) -> u32 {
-    if at < ALL {
-        return all[at];
-    }
-    0
-}
-
-// Whether the words from `base` on are those of the area.
-pub fn same_from(all: &[u32; ALL], base: usize, area: &[u32]) -> bool {
-    let mut k = 0;
-    while k < area.len() {
-        if area[k] != word_at(all, reading::sum(base, k)) {
-            return false;
+    let [place, count, step] = vector.numbers::<3>();
+    let step: u32 = narrowed(step);
+    let mut record = vector.record::<WIDTH>();
+    let mut at = WIDTH.saturating_mul(place as usize);
+    for _ in 0..count {
+        put(area, at, &record);
+        at = at.saturating_add(WIDTH);
+        for field in rising {
+            if let Some(word) = record.get_mut(*field) {
+                *word = word.wrapping_add(step);
+            }
         }
-        k += 1;
     }
-    true
 }
 
-// Where a contract's queue begins in the area that holds all: 64 orders for each contract before it.
-pub fn queue_base(sell: bool, contract: usize) -> usize {
-    let before = reading::times(reading::times(contract, rules::MAX_RESTING), ORDER_WORDS);
-    let first = rules::QUEUE_STRIDE;
-    if before < first {
-        return 0;
+fn put_orders(vector: &mut Reader, area: &mut [u32]) {
+    let rising = [rules::NUMBER_WORD, rules::STAMP_WORD];
+    put_records::<{ rules::ORDER_STRIDE }>(vector, area, &rising);
+}
+
+fn put_edit(vector: &mut Reader, edit: Edit, given: &mut Given) {
+    match edit {
+        Edit::Counts => put_counts(vector, &mut given.state),
+        Edit::Lengths => given.lengths = read_lengths(vector),
+        Edit::Contract => put_contract(vector, &mut given.state),
+        Edit::Queues => put_queues(vector, &mut given.state),
+        Edit::Account => put_account(vector, &mut given.state),
+        Edit::Holding => put_holding(vector, &mut given.state),
+        Edit::Buys => put_orders(vector, &mut given.areas.buys),
+        Edit::Sells => put_orders(vector, &mut given.areas.sells),
+        Edit::Trades => {
+            put_records::<{ rules::TRADE_STRIDE }>(vector, &mut given.areas.trades, &[1])
+        }
+        Edit::Answers => {
+            put_records::<{ rules::ANSWER_STRIDE }>(vector, &mut given.areas.answers, &[1])
+        }
     }
-    if sell {
-        return reading::sum(SELLS, before - first);
+}
+
+// "count of edits, then each edit". A number that is no edit's ends them, and what is left to read then differs.
+pub fn put_edits(vector: &mut Reader, given: &mut Given) {
+    for _ in 0..vector.number() {
+        let Some(edit) = Edit::from_number(vector.number()) else {
+            return;
+        };
+        put_edit(vector, edit, given);
     }
-    reading::sum(BUYS, before - first)
+}
+
+// The words from a contract's queue on in an area of buys or of sells: 64 orders for each contract before it.
+pub fn queue_from(area: &[u32], contract: usize) -> &[u32] {
+    let before = contract.saturating_sub(1);
+    let at = rules::QUEUE_STRIDE.saturating_mul(before);
+    area.get(at..).unwrap_or(&[])
 }

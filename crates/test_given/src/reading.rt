@@ -1,126 +1,121 @@
 // Numbers, words and bytes of a vector file (`tools/model/vectors.py` says how they are written). Whatever stands in a file has a
 // reading: past its end are zeros.
-ghost use Rattle.std.specs.Prelude.{◌≤◌};
 
-// A number, and where the next one begins.
-#[derive(Clone, Copy)]
-pub struct Found {
-    pub value: u64,
-    pub next: usize,
+// A file that is read from its start on, and how far it was read.
+#[derive(Drop)]
+pub struct Reader<'a> {
+    file: &'a [u8],
+    at: usize,
 }
 
-// Numbers one after the other, zeros behind them.
-#[derive(Clone, Copy)]
-pub struct Row {
-    pub values: [u64; 16],
-    pub next: usize,
-}
-
-// How many words or bytes were read.
-#[derive(Clone, Copy)]
-pub struct Length {
-    pub length: usize,
-    pub next: usize,
-}
-
-// No file and no area is so long.
-const FAR: usize = 1000000;
-
-fn byte_as_u64(x: u8) -> u64 {
-    x as u64
-}
-
-fn byte_at(file: &[u8], at: usize) -> u8 {
-    if at < file.len() {
-        return file[at];
+impl<'a> Reader<'a> {
+    pub fn new(file: &'a [u8]) -> Reader<'a> {
+        Reader { file, at: 0 }
     }
-    0
-}
 
-fn put_byte(area: &mut [u8], at: usize, byte: u8) {
-    if at < area.len() {
-        area[at] = byte;
+    // Whether the file was read up to its end, and not beyond it.
+    pub fn at_end(&self) -> bool {
+        self.at == self.file.len()
+    }
+
+    fn byte(&mut self) -> u8 {
+        let byte = self.file.get(self.at).copied().unwrap_or(0);
+        self.at = self.at.saturating_add(1);
+        byte
+    }
+
+    // "A number below 248 is one byte; otherwise a byte 247 + k stands before its k bytes, the highest first."
+    pub fn number(&mut self) -> u64 {
+        let first = self.byte();
+        if first < 248 {
+            return u64::from(first);
+        }
+        let mut value: u64 = 0;
+        for _ in 247..first {
+            value = (value << 8) | u64::from(self.byte());
+        }
+        value
+    }
+
+    // The next N numbers.
+    pub fn numbers<const N: usize>(&mut self) -> [u64; N] {
+        let mut values = [0u64; N];
+        for value in values.iter_mut() {
+            *value = self.number();
+        }
+        values
+    }
+
+    // The next N numbers as words.
+    pub fn record<const N: usize>(&mut self) -> [u32; N] {
+        let mut words = [0u32; N];
+        for word in words.iter_mut() {
+            *word = narrowed(self.number());
+        }
+        words
+    }
+
+    // "words: count, then each word". The part of the area that they are in.
+    pub fn words<'b>(&mut self, area: &'b mut [u32]) -> &'b [u32] {
+        let count = self.number() as usize;
+        for k in 0..count {
+            let word = narrowed(self.number());
+            if let Some(place) = area.get_mut(k) {
+                *place = word;
+            }
+        }
+        first(area, count)
+    }
+
+    // "bytes: count of parts; for each part: times, length, and the bytes themselves (a part stands `times` times)". How many they are.
+    pub fn bytes(&mut self, area: &mut [u8]) -> usize {
+        let mut total: usize = 0;
+        for _ in 0..self.number() {
+            let times = self.number();
+            let part = self.part();
+            for _ in 0..times {
+                put(area, total, part);
+                total = total.saturating_add(part.len());
+            }
+        }
+        total
+    }
+
+    // The same as the part of the area that they are in.
+    pub fn part_of<'b>(&mut self, area: &'b mut [u8]) -> &'b [u8] {
+        let length = self.bytes(area);
+        first(area, length)
+    }
+
+    // "length, and the bytes themselves", as far as the file has them.
+    fn part(&mut self) -> &'a [u8] {
+        let length = self.number() as usize;
+        let left = self.file.get(self.at..).unwrap_or(&[]);
+        self.at = self.at.saturating_add(length);
+        first(left, length)
     }
 }
 
-pub fn put_word(area: &mut [u32], at: usize, word: u32) {
-    if at < area.len() {
-        area[at] = word;
-    }
-}
-
-// Sums and products that stay within reach.
-pub fn sum(a: usize, b: usize) -> usize {
-    if a < FAR {
-        if b < FAR {
-            return a + b;
+// Writes from a place on what there is room for.
+pub fn put<T: Copy>(area: &mut [T], at: usize, values: &[T]) {
+    if let Some(room) = area.get_mut(at..) {
+        for (place, value) in room.iter_mut().zip(values) {
+            *place = *value;
         }
     }
-    FAR
 }
 
-pub fn times(a: usize, b: usize) -> usize {
-    if a < FAR {
-        if b < FAR {
-            return a * b;
-        }
-    }
-    FAR
-}
-
-// "A number below 248 is one byte; otherwise a byte 247 + k stands before its k bytes, the highest first."
-pub fn number(file: &[u8], at: usize) -> Found {
-    let first = byte_at(file, at);
-    let mut next = sum(at, 1);
-    if first < 248 {
-        return Found {
-            value: byte_as_u64(first),
-            next,
-        };
-    }
-    let mut value: u64 = 0;
-    let mut k: u8 = 247;
-    while k < first {
-        value = (value << 8) | byte_as_u64(byte_at(file, next));
-        next = sum(next, 1);
-        k += 1;
-    }
-    Found { value, next }
-}
-
-// The next `count` numbers.
-pub fn numbers(file: &[u8], at: usize, count: usize) -> Row
-    requires { count ≤ 16 }
-{
-    let mut values = [0u64; 16];
-    let mut next = at;
-    let mut k = 0;
-    while k < count {
-        let found = number(file, next);
-        values[k] = found.value;
-        next = found.next;
-        k += 1;
-    }
-    Row { values, next }
+// The first n bytes or words, all where there are fewer.
+pub fn first<T>(area: &[T], n: usize) -> &[T] {
+    area.get(..n).unwrap_or(area)
 }
 
 // A number as a narrower one; what does not fit was never written.
-pub fn word(value: u64) -> u32 {
-    if value < 4294967296 {
-        return value as u32;
-    }
-    0
-}
-
-pub fn half(value: u64) -> u16 {
-    if value < 65536 {
-        return value as u16;
-    }
-    0
-}
-
-pub fn size(value: u64) -> usize {
-    value as usize
+pub fn narrowed<T: TryFrom<u64> + Default + Drop>(value: u64) -> T
+where
+    <T as TryFrom<u64>>::Error: Drop,
+{
+    T::try_from(value).unwrap_or_default()
 }
 
 // "2n, or as 2(-n - 1) + 1 where n is below zero"
@@ -132,83 +127,12 @@ pub fn signed(value: u64) -> i64 {
     !magnitude
 }
 
-// "words: count, then each word"
-pub fn words(file: &[u8], at: usize, area: &mut [u32]) -> Length {
-    let count = number(file, at);
-    let total = size(count.value);
-    let mut next = count.next;
-    let mut k = 0;
-    while k < total {
-        let found = number(file, next);
-        put_word(area, k, word(found.value));
-        next = found.next;
-        k += 1;
-    }
-    Length {
-        length: total,
-        next,
-    }
-}
-
-// A part of `count` bytes that stand at `at`, again and again until `end`.
-fn put_part(file: &[u8], at: usize, count: usize, area: &mut [u8], start: usize, end: usize) {
-    let mut from = 0;
-    let mut to = start;
-    while to < end {
-        put_byte(area, to, byte_at(file, sum(at, from)));
-        from = sum(from, 1);
-        if from >= count {
-            from = 0;
-        }
-        to += 1;
-    }
-}
-
-// "bytes: count of parts; for each part: times, length, and the bytes themselves (a part stands `times` times)"
-pub fn bytes(file: &[u8], at: usize, area: &mut [u8]) -> Length {
-    let parts = number(file, at);
-    let count = parts.value;
-    let mut next = parts.next;
-    let mut total = 0;
-    let mut k: u64 = 0;
-    while k < count {
-        let repeated = number(file, next);
-        let part = number(file, repeated.next);
-        let bytes_in_part = size(part.value);
-        let end = sum(total, times(size(repeated.value), bytes_in_part));
-        put_part(file, part.next, bytes_in_part, area, total, end);
-        total = end;
-        next = sum(part.next, bytes_in_part);
-        k += 1;
-    }
-    Length {
-        length: total,
-        next,
-    }
-}
-
-// Every byte of an area has a filling that tells it from its neighbours.
+// Every byte of an area has a filling that tells it from its neighbours. Beside `fill` for words: std has no bound on sums that wrap, by
+// which one function would serve both.
 pub fn fill_bytes(area: &mut [u8]) {
     let mut byte: u8 = 165;
-    let mut k = 0;
-    while k < area.len() {
-        put_byte(area, k, byte);
-        byte = std::num::wrapping_add_u8(byte, 1);
-        k += 1;
+    for place in area.iter_mut() {
+        *place = byte;
+        byte = byte.wrapping_add(1);
     }
-}
-
-// The first n bytes or words, all where there are fewer.
-pub fn first_bytes(area: &[u8], n: usize) -> &[u8] {
-    if n <= area.len() {
-        return &area[0..n];
-    }
-    area
-}
-
-pub fn first_words(area: &[u32], n: usize) -> &[u32] {
-    if n <= area.len() {
-        return &area[0..n];
-    }
-    area
 }

@@ -12,6 +12,7 @@ pub mod Rest
 pub mod InUse
 pub mod Terms
 pub mod LotsIncluded
+pub mod Codes
 pub mod Refusals
 pub mod Stages
 pub mod AuctionTurns

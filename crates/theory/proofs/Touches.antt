@@ -4,7 +4,6 @@ use Rattle.laws.specs.Logic.{Bool, true, false, not, ◌&&◌, true≢false, fal
 use Rattle.laws.specs.Numbers.{ℕ, ◌+◌, ◌<◌, arith, eqb-true, eqb-false, ne_eqb, eqb, ltb, length, get_or, get_or-set_same, get_or-set_other, map-set_same}
 use Rattle.laws.specs.Choice.{all_of, all_of_true, both_true, either_false, pick}
 use Rattle.laws.specs.Lists.{at_set, kept_at}
-use Rattle.rules.specs.Change.{unchanged}
 use Rattle.rules.specs.Command.{Field, unused, holds, account_field, contract_field, is_payment, is_settle}
 use Rattle.rules.specs.Exchange.{Exchange, Listing, absent, account_at, held_at, holder_at, holding_at, listing_at, listing_named, no_account, no_holding, no_listing, no_order, own, place_of}
 use Rattle.rules.specs.Holdings.{book_trades}

@@ -4,11 +4,11 @@
 
 ghost use Rattle.writer.specs.Notes.{ANote};
 
-use runner::output::{BUFFER, Note, goes_on, lines, note_of};
+use runner::output::{BUFFER, goes_on, lines, note_of};
 
 // What is to be said of the last write, made or failed: the rules leave open which.
-pub fn print_file(fd: i32, file: &[u8]) -> Note
-    ensures { ANote result }
+pub fn print_file(fd: i32, file: &[u8]) -> &'static str
+    ensures { ANote result.now }
 {
     let day = dayfile::open::open_day(file);
     let mut buys = [0u32; rules::QUEUES_WORDS];
@@ -17,9 +17,8 @@ pub fn print_file(fd: i32, file: &[u8]) -> Note
     let mut out = [0u8; BUFFER];
     let mut state = day.state;
     let mut next: usize = 0;
-    let mut written = true;
-    let mut more = true;
-    while more {
+    // no range: the day says part by part whether there is more
+    loop {
         let part = lines(
             file,
             state,
@@ -30,10 +29,11 @@ pub fn print_file(fd: i32, file: &[u8]) -> Note
             &mut out,
         );
         let length = part.length;
-        written = io::write_all(fd, &out[..length]);
+        let written = io::write_all(fd, &out[..length]);
+        if !goes_on(part.more, written) {
+            return note_of(written);
+        }
         state = part.state;
         next = part.next;
-        more = goes_on(part.more, written);
     }
-    note_of(written)
 }
