@@ -255,9 +255,9 @@ class Ends(unittest.TestCase):
 
 
 def wait_until_it_reads(process):
-    """Until it waits for more of its standard input."""
+    """Until it is Python, and waits for more of its standard input: the shell before it waits for pipes of its own."""
     for _ in range(1_000):
-        if Path(f"/proc/{process}/wchan").read_text().find("pipe") >= 0:
+        if "python" in os.readlink(f"/proc/{process}/exe") and "pipe" in Path(f"/proc/{process}/wchan").read_text():
             return
         signal.sigtimedwait([], 0.02)
 
