@@ -5,6 +5,8 @@
 ghost use Rattle.std.specs.Prelude.{◌≡◌, ◌≤◌, length, replicate};
 ghost use Rattle.areas.specs.Moves.{closed_up, moved_back, moved_forward};
 
+// `move_back`, `move_forward` and `clear` are the library's copy and fill, each under the name and definition of what it is for.
+
 // Opens a gap of w words: all but the last w words move back by w. Requires w words or more.
 pub fn move_back(part: &mut [u32], w: usize)
     requires { w ≤ length part.old }

@@ -4,8 +4,10 @@ ghost use Rattle.laws.specs.Choice.{all, all_of};
 ghost use Rattle.rules.specs.Bounds.{max_resting, max_accounts, max_settlements};
 ghost use Rattle.rules.specs.Exchange.{holding_at, no_order};
 ghost use Rattle.rules.specs.WellFormed.{held_in_range, holding_in_range, mark_in_range, balance_in_range};
+ghost use Rattle.audit.specs.Lent.{in_range, listing_of};
 ghost use Rattle.audit.specs.Parts.{QueuesReady, Summable, Summed, listing, listing_in_range};
 
+use crate::lent::Queues;
 use book::orders::Queue;
 use rules::{Account, Holding, State};
 
@@ -55,15 +57,14 @@ fn holding_in_range(
 
 // What all accounts hold of the contract at a place.
 #[tactic(auto, using(invariants::proofs::MemoryRoom::counts_ok))]
-fn held_in_range(state: State, c: usize, buys: &[u32], sells: &[u32]) -> bool
-    requires { QueuesReady state buys.now sells.now × (c < state.contractcount) × (listing_in_range state.accountcount state.next state.nextstamp (listing state buys.now sells.now c) ≡ true) }
-    ensures { result ≡ all (λ a. holding_in_range (listing state buys.now sells.now c) a (holding_at state.accounts a c)) state.accountcount }
+fn held_in_range(queues: &Queues<'_, '_>, c: usize) -> bool
+    requires { (c < queues.now.state.now.contractcount) × (in_range queues.now c ≡ true) }
+    ensures { result ≡ all (λ a. holding_in_range (listing_of queues.now c) a (holding_at queues.now.state.now.accounts a c)) queues.now.state.now.accountcount }
 {
+    let state = queues.state;
     let limit = state.contracts[c].limit;
-    let bids = Queue::new(buys, c, state.buycounts[c]);
-    let offers = Queue::new(sells, c, state.sellcounts[c]);
-    let bought = resting_lots(&bids);
-    let sold = resting_lots(&offers);
+    let bought = resting_lots(&queues.bids(c));
+    let sold = resting_lots(&queues.offers(c));
     (0..state.accountcount).all(|a| {
         let opens = 2 * a;
         let closes = opens + 1;
@@ -78,11 +79,17 @@ fn held_in_range(state: State, c: usize, buys: &[u32], sells: &[u32]) -> bool
     })
 }
 
+// One walk for a definition of its own, as `queues::listings_in_range`.
 pub fn holdings_in_range(state: State, buys: &[u32], sells: &[u32]) -> bool
     requires { QueuesReady state buys.now sells.now × (all (λ c. listing_in_range state.accountcount state.next state.nextstamp (listing state buys.now sells.now c)) state.contractcount ≡ true) }
     ensures { result ≡ all (λ a. all (λ c. holding_in_range (listing state buys.now sells.now c) a (holding_at state.accounts a c)) state.contractcount) state.accountcount }
 {
-    (0..state.contractcount).all(|c| held_in_range(state, c, buys, sells))
+    let queues = Queues {
+        state: &state,
+        buys,
+        sells,
+    };
+    (0..state.contractcount).all(|c| held_in_range(&queues, c))
 }
 
 // "maker mark 1, its value 0 or 1"

@@ -7,6 +7,7 @@ ghost use Rattle.rules.specs.WellFormed.{well_formed_contents};
 
 mod accounts;
 pub mod counts;
+mod lent;
 mod numbers;
 mod queues;
 mod quotes;

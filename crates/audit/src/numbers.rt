@@ -4,8 +4,10 @@ ghost use Rattle.std.specs.Prelude.{◌≡◌, ◌≤◌, ◌<◌, length, take}
 ghost use Rattle.laws.specs.Tabulate.{tabulate};
 ghost use Rattle.rules.specs.Memory.{order_stride, word_of};
 ghost use Rattle.rules.specs.WellFormed as wellformed;
+ghost use Rattle.audit.specs.Lent.{listing_of};
 ghost use Rattle.audit.specs.Parts.{QueuesReady, listing, max_listed};
 
+use crate::lent::Queues;
 use book::orders::Queue;
 use rules::State;
 
@@ -26,20 +28,14 @@ fn list_queue(values: &mut [u32], queue: &Queue<'_>, word: usize)
 }
 
 // The field of all orders, listed from the front: how many there are.
-fn list_all(
-    list: &mut [u32; MAX_LISTED],
-    state: State,
-    buys: &[u32],
-    sells: &[u32],
-    word: usize,
-) -> usize
-    requires { QueuesReady state buys.now sells.now × (word < order_stride) }
-    ensures { (result ≤ max_listed) × (take result list.new ≡ wellformed.all_listed (word_of word) (tabulate state.contractcount (listing state buys.now sells.now))) }
+fn list_all(list: &mut [u32; MAX_LISTED], queues: &Queues<'_, '_>, word: usize) -> usize
+    requires { word < order_stride }
+    ensures { (result ≤ max_listed) × (take result list.new ≡ wellformed.all_listed (word_of word) (tabulate queues.now.state.now.contractcount (listing_of queues.now))) }
 {
     let mut count = 0;
-    for c in 0..state.contractcount {
-        let bids = Queue::new(buys, c, state.buycounts[c]);
-        let offers = Queue::new(sells, c, state.sellcounts[c]);
+    for c in 0..queues.state.contractcount {
+        let bids = queues.bids(c);
+        let offers = queues.offers(c);
         let middle = count + bids.len();
         let end = middle + offers.len();
         list_queue(&mut list[count..middle], &bids, word);
@@ -70,6 +66,11 @@ pub fn used_once(state: State, buys: &[u32], sells: &[u32], word: usize) -> bool
     ensures { result ≡ wellformed.used_once (wellformed.all_listed (word_of word) (tabulate state.contractcount (listing state buys.now sells.now))) }
 {
     let mut list: [u32; MAX_LISTED] = [0; MAX_LISTED];
-    let count = list_all(&mut list, state, buys, sells, word);
+    let queues = Queues {
+        state: &state,
+        buys,
+        sells,
+    };
+    let count = list_all(&mut list, &queues, word);
     is_used_once(&list[..count])
 }

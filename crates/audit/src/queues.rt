@@ -5,6 +5,7 @@ ghost use Rattle.rules.specs.Bounds.{in_auction, terms_in_range};
 ghost use Rattle.rules.specs.WellFormed.{contract_in_range, ahead, sorted, uncrossed, order_in_range};
 ghost use Rattle.audit.specs.Parts.{QueuesReady, listing, listing_in_range};
 
+use crate::lent::Queues;
 use book::orders::Queue;
 use book::queue;
 use rules::{Contract, Order, State};
@@ -88,8 +89,13 @@ fn listing_in_range(state: State, c: usize, buys: &[u32], sells: &[u32]) -> bool
     ensures { result ≡ listing_in_range state.accountcount state.next state.nextstamp (listing state buys.now sells.now c) }
 {
     let contract = state.contracts[c];
-    let bids = Queue::new(buys, c, state.buycounts[c]);
-    let offers = Queue::new(sells, c, state.sellcounts[c]);
+    let queues = Queues {
+        state: &state,
+        buys,
+        sells,
+    };
+    let bids = queues.bids(c);
+    let offers = queues.offers(c);
     let accounts = state.accountcount;
     let next = state.next;
     let nextstamp = state.nextstamp;
@@ -101,6 +107,7 @@ fn listing_in_range(state: State, c: usize, buys: &[u32], sells: &[u32]) -> bool
         && orders_in_range(&offers, accounts, next, nextstamp, contract)
 }
 
+// Not one function with `listings_quoted` and `holdings_in_range`: each is one walk for a definition of its own.
 pub fn listings_in_range(state: State, buys: &[u32], sells: &[u32]) -> bool
     requires { QueuesReady state buys.now sells.now }
     ensures { result ≡ all (λ c. listing_in_range state.accountcount state.next state.nextstamp (listing state buys.now sells.now c)) state.contractcount }

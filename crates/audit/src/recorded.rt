@@ -44,6 +44,7 @@ fn trade_in_range(
         && t.sellclose <= 1
 }
 
+// The trades come as an area and a count, and not as a `Trades`: docs/RULES.md names this call.
 pub fn trades_in_range(
     list: [Contract; rules::MAX_CONTRACTS],
     contracts: usize,

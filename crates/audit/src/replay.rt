@@ -41,6 +41,7 @@ fn start_of_day(accounts: [Account; rules::MAX_ACCOUNTS]) -> [Account; rules::MA
     held
 }
 
+// Two fields of four are compared, so not `==`.
 fn has_same_lots(a: Account, b: Account, contracts: usize) -> bool
     requires { contracts ≤ max_contracts }
     ensures { result ≡ holdings.same_lots (take contracts a.holdings) (take contracts b.holdings) }
@@ -50,6 +51,7 @@ fn has_same_lots(a: Account, b: Account, contracts: usize) -> bool
         .all(|(h, k)| h.long == k.long && h.short == k.short)
 }
 
+// Nor `==` here, for the same reason.
 fn have_same_holdings(
     list: [Account; rules::MAX_ACCOUNTS],
     others: [Account; rules::MAX_ACCOUNTS],
@@ -64,6 +66,7 @@ fn have_same_holdings(
         .all(|(a, b)| has_same_lots(*a, *b, contracts))
 }
 
+// The trades come as an area and a count, and not as a `Trades`: docs/RULES.md names this call.
 pub fn replays(
     list: [Account; rules::MAX_ACCOUNTS],
     contracts: usize,

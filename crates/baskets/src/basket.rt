@@ -1,5 +1,5 @@
 // A bundle of up to 100 commands, with an area for their answers. `submit` and `submit_bytes` are calls for users: they answer on
-// anything.
+// anything. They take the state and its areas one by one, as C lends them.
 ghost use Rattle.std.specs.Prelude.{true, ◌≡◌, ◌*◌, ◌/◌, ◌≤◌, length, replicate, take};
 ghost use Rattle.laws.specs.Written.{overwritten};
 ghost use Rattle.areas.specs.Records.{store};

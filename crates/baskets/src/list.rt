@@ -1,4 +1,5 @@
-// A list of commands of any length, with an area for their answers. `run` is a call for users: it answers on anything.
+// A list of commands of any length, with an area for their answers. `run` is a call for users: it answers on anything. It takes the
+// state and its areas one by one, as C lends them.
 ghost use Rattle.std.specs.Prelude.{◌≡◌, ◌*◌, ◌≤◌, length};
 ghost use Rattle.areas.specs.Records.{store};
 ghost use Rattle.rules.specs.Condition3.{run as rules·run};

@@ -5,13 +5,12 @@ use Rattle.laws.specs.Numbers.{ℕ, ◌+◌, ◌*◌, ◌<◌, ◌≤◌, arith,
 use Rattle.laws.specs.Numbers.{List·getD-append}
 use Rattle.std.specs.Prelude.{Some, None}
 use Rattle.laws.specs.Choice.{pick, all_of, all_of_append, all_of_stop, both_true}
-use Rattle.areas.specs.Records.{store}
-use Rattle.areas.proofs.Records.{store_append, store_nil, length_store, take_records}
+use Rattle.areas.specs.Records.{decode, records, store}
+use Rattle.areas.proofs.Records.{store_append, store_nil, length_store, records_add, take_records}
 use Rattle.rules.specs.Exchange.{no_trade}
 use Rattle.rules.specs.Memory.{recorded_trades, trade_from, trade_words, trade_stride}
 use Rattle.rules.specs.declared.Trade.{Trade}
 use Rattle.theory.proofs.Codecs.{trade_codec, length_trades, trades_none, trade_at_lem}
-use Rattle.dayprofit.proofs.Trading.{more_trades}
 use Rattle.replaying.proofs.Trades.{next_trade}
 use Rattle.clients.specs.Parts.{before, client_trades, PostingIs}
 use Rattle.clients.specs.Clients.{is_posted, client_place, client_trade, trade_posted, is_client, legs_in, leg_count, total, max_clients, others}
@@ -52,6 +51,12 @@ legs_more ts u =
 map_more : (f : Trade → Trade) (ts : List Trade) (t : Trade) → map f (ts ++ (t ∷ [])) ≡ map f ts ++ (f t ∷ [])
 map_more f [] t = refl
 map_more f (x ∷ ts) t = ap (λ (us : List Trade). f x ∷ us) (map_more f ts t)
+
+more_trades : (area : List ℕ) (i : ℕ) (t : Trade) → t ≡ trade_from (drop (trade_stride * i) area) → recorded_trades area (i + 1) ≡ recorded_trades area i ++ (t ∷ [])
+unfolding recorded_trades records decode
+more_trades area i t e =
+    let k : 0 + trade_stride * i ≡ trade_stride * i = omega arith in
+    rw (e, ← k) (records_add trade_codec area 0 i 1)
 
 -- ---- the trades before the first that fails a test
 

@@ -83,6 +83,7 @@ fn is_posted(t: Trade, u: Trade, a: u32) -> bool
 
 // The first `count` trades with clients in the account's place, written into `area`, up to the first that has a leg of the account's
 // without a client. It gives the number of clients' legs, and none where there is such a trade.
+// The trades come as an area and a count, and not as a `Trades`: docs/RULES.md names this call.
 pub fn post_trades(
     trades: &[u32],
     count: usize,

@@ -30,6 +30,7 @@ fn all_zero(
         && amount == 0
 }
 
+// A match on the number: here it becomes the condition.
 #[tactic(auto, unfolding(rules::specs::Command::price_condition))]
 fn price_condition(value: u8, price: u32) -> PriceCondition
     ensures { result ≡ price_condition value price }
@@ -41,6 +42,7 @@ fn price_condition(value: u8, price: u32) -> PriceCondition
     }
 }
 
+// As for the price: here the number becomes the condition.
 #[tactic(auto, unfolding(rules::specs::Command::time_condition))]
 fn time_condition(value: u8) -> TimeCondition
     ensures { result ≡ time_condition value }
@@ -83,6 +85,7 @@ fn new_order(r: Record) -> NewOrder
     }
 }
 
+// Not one function with `withdraw_of`: each has a variant and a definition of its own.
 #[tactic(auto, unfolding(laws::specs::Choice::all_of, rules::specs::Command::zeros, rules::specs::Command::deposit_of))]
 fn deposit_of(r: Record) -> Command
     ensures { result ≡ deposit_of r }
@@ -97,6 +100,7 @@ fn deposit_of(r: Record) -> Command
     }
 }
 
+// A variant and a definition of its own, as `deposit_of`.
 #[tactic(auto, unfolding(laws::specs::Choice::all_of, rules::specs::Command::zeros, rules::specs::Command::withdraw_of))]
 fn withdraw_of(r: Record) -> Command
     ensures { result ≡ withdraw_of r }
@@ -230,7 +234,7 @@ fn change_of(r: Record) -> Command
     }
 }
 
-// The command that a record is, or `Malformed`: "kind, flag value or unused field is wrong".
+// The command that a record is, or `Malformed`: "kind, flag value or unused field is wrong". Here the number becomes the kind.
 #[tactic(auto, unfolding(rules::specs::Command::command_of))]
 pub fn command_of(r: Record) -> Command
     ensures { result ≡ command_of r }
@@ -250,7 +254,7 @@ pub fn command_of(r: Record) -> Command
     }
 }
 
-// The number of a command's kind, 0 for `Malformed`.
+// The number of a command's kind, 0 for `Malformed`: here the kind becomes the number.
 pub fn kind_of(command: Command) -> u32
     ensures { result ≡ kind_number command }
 {
@@ -268,12 +272,14 @@ pub fn kind_of(command: Command) -> u32
     }
 }
 
+// Not one function with `is_settle`: each has a variant and a definition of its own.
 pub fn is_malformed(command: Command) -> bool
     ensures { result ≡ is_malformed command }
 {
     matches!(command, Command::Malformed)
 }
 
+// A variant and a definition of its own, as `is_malformed`.
 pub fn is_settle(command: Command) -> bool
     ensures { result ≡ is_settle command }
 {

@@ -20,6 +20,7 @@ use Rattle.dayprofit.specs.declared.profit.Sums.{Sums}
 use Rattle.dayprofit.proofs.FirstIn.{SideIs, day_sides, closing_by_sides, holding_by_sides, first_other}
 use Rattle.dayprofit.proofs.Legs.{batches_lots, batches_cost}
 use Rattle.dayprofit.proofs.Passes.{lots_reach, value_reach}
+use Rattle.dayprofit.proofs.Trading.{sized_day}
 
 -- ---- a side's sums, by its legs: start-of-day lots go first
 
@@ -133,9 +134,9 @@ module _ (area : List ℕ) (count : ℕ) (closed closes opened opens left used :
           reference = g.reference;
           first = few;
           covered = omega (arith, w.closed, w.opened, covered, start_lots ref start 0 (opened_today short ls));
-          opened = omega (arith, q.opening.lots_are a c short la lc, lots_reach area count g.trades count (omega arith) a c short false);
-          closes = omega (arith, q.closing.value_is a c (not short) la lc, value_reach area count g.trades count (omega arith) a c (not short) true);
-          opens = omega (arith, q.opening.value_is a c short la lc, value_reach area count g.trades count (omega arith) a c short false);
+          opened = omega (arith, q.opening.lots_are a c short la lc, lots_reach _ (sized_day _ _ g.trades) a c short false);
+          closes = omega (arith, q.closing.value_is a c (not short) la lc, value_reach _ (sized_day _ _ g.trades) a c (not short) true);
+          opens = omega (arith, q.opening.value_is a c short la lc, value_reach _ (sized_day _ _ g.trades) a c short false);
           used = omega (arith, w.used, w.opens, first_other (closed_lots short ls - start) (opened_today short ls));
         }
 

@@ -1,18 +1,18 @@
 -- The passes over the day's trades: one adds up the legs that close or open, one takes the first of the lots opened; and how far their
 -- sums reach. Assumes nothing.
 use Rattle.laws.specs.Logic.{Bool, true, false, ◌&&◌, List, [], ◌∷◌, ◌++◌, append-nil, ◌≡◌, ap, ◌∙◌}
-use Rattle.laws.specs.Numbers.{ℕ, ◌+◌, ◌-◌, ◌*◌, ◌<◌, ◌≤◌, min, arith, eqb, length, get_or, drop, replicate, length-replicate, get_or-replicate}
+use Rattle.laws.specs.Numbers.{ℕ, ◌+◌, ◌-◌, ◌*◌, ◌<◌, ◌≤◌, min, arith, eqb, length, get_or, take, replicate, length-replicate, get_or-replicate}
+use Rattle.laws.specs.Numbers.{take_all}
 use Rattle.laws.specs.Choice.{pick}
 use Rattle.laws.specs.Sums.{sum_of, sum_of_append}
 use Rattle.rules.specs.Article32.{lots_in}
-use Rattle.rules.specs.Memory.{recorded_trades, trade_from, trade_stride}
 use Rattle.rules.specs.Bounds.{max_lots, max_price, max_accounts, max_contracts}
-use Rattle.rules.specs.Settlement.{Leg, leg, Batch, only, first_lots}
+use Rattle.rules.specs.Exchange.{no_trade}
+use Rattle.rules.specs.Settlement.{Leg, leg, Batch, only, first_lots, legs}
 use Rattle.rules.specs.declared.Trade.{Trade}
-use Rattle.theory.proofs.Codecs.{length_trades, trade_at_lem}
-use Rattle.dayprofit.specs.Day.{Sized, SizedTrades}
+use Rattle.dayprofit.specs.Day.{Sized, SizedDay}
 use Rattle.dayprofit.specs.Sides.{same, lots_if, value_if, batch_if, batches_of, opened_today, cost, day_lots_most, day_value_most}
-use Rattle.dayprofit.specs.Slots.{slot_of, party_of, close_of, leg_slot, changed, Placed, PlacedTrades, Addable, slots, slot_lots_most, slot_value_most}
+use Rattle.dayprofit.specs.Slots.{slot_of, party_of, close_of, leg_slot, changed, Placed, PlacedDay, Addable, SumsAre, UsedAre, LeftAre, slots, slot_lots_most, slot_value_most}
 use Rattle.dayprofit.proofs.FirstIn.{lots_append, cost_append, first_append, first_other}
 use Rattle.dayprofit.proofs.Legs.{is_kind, kind_itself, only_one, leg_lots, leg_value_lem, value_small, legs_lots, legs_value_lem, batches_append, batches_cost}
 use Rattle.dayprofit.proofs.Slots.{Pass, Kept, leg_of, legs_to, slot_small, leg_addable, leg_more, trade_more, no_legs}
@@ -91,7 +91,7 @@ taking left =
       below = λ q s ls u v w. omega (arith, w.1, first_other (get_or left q 0) (opened_today s ls), batches_cost s false ls);
     }
 
--- ---- how far a kind's sums reach over the first i trades, and with one leg of the next
+-- ---- how far a kind's sums reach over trades, and with one leg of another
 
 leg_reach : (f : Leg → ℕ) (b : ℕ) (ls : List Leg) (here : Bool) (l : Leg) → f l ≤ b → sum_of f (ls ++ only here l) ≤ sum_of f ls + b
 leg_reach f b ls here l h = rw (sum_of_append f ls (only here l), only_one f here l) (chosen here)
@@ -100,103 +100,111 @@ leg_reach f b ls here l h = rw (sum_of_append f ls (only here l), only_one f her
     chosen true = omega arith
     chosen false = omega arith
 
-module _ (area : List ℕ) (count : ℕ) (g : SizedTrades area count) (i : ℕ) (h : i ≤ count) (a c : ℕ) (s k : Bool) where
-  pub lots_reach : sum_of (lots_if s k) (legs_to area i a c) ≤ day_lots_most
-  lots_reach = omega (arith, legs_lots a c s k (recorded_trades area i) (sized_first area count g i h), length_trades area i, g.few)
+module _ (ts : List Trade) (g : SizedDay ts) (a c : ℕ) (s k : Bool) where
+  pub lots_reach : sum_of (lots_if s k) (legs a c ts) ≤ day_lots_most
+  lots_reach = omega (arith, legs_lots a c s k ts g.sized, g.few)
 
-  pub value_reach : sum_of (value_if s k) (legs_to area i a c) ≤ day_value_most
-  value_reach = omega (arith, legs_value_lem a c s k (recorded_trades area i) (sized_first area count g i h), length_trades area i, g.few)
+  pub value_reach : sum_of (value_if s k) (legs a c ts) ≤ day_value_most
+  value_reach = omega (arith, legs_value_lem a c s k ts g.sized, g.few)
 
   module _ (sell : Bool) (t : Trade) (z : Sized t) where
-    pub lots_reach_leg : sum_of (lots_if s k) (legs_to area i a c ++ leg_of sell t a c) ≤ slot_lots_most
+    pub lots_reach_leg : sum_of (lots_if s k) (legs a c ts ++ leg_of sell t a c) ≤ slot_lots_most
     lots_reach_leg =
         let l : Leg = leg sell (close_of sell t) t.price t.lots in
         let b : lots_if s k l ≤ max_lots = omega (arith, leg_lots s k sell (close_of sell t) t.price t.lots, z.lots) in
-        omega (arith, lots_reach, leg_reach (lots_if s k) max_lots (legs_to area i a c) (eqb t.contract c && eqb (party_of sell t) a) l b)
+        omega (arith, lots_reach, leg_reach (lots_if s k) max_lots (legs a c ts) (eqb t.contract c && eqb (party_of sell t) a) l b)
 
-    pub value_reach_leg : sum_of (value_if s k) (legs_to area i a c ++ leg_of sell t a c) ≤ slot_value_most
+    pub value_reach_leg : sum_of (value_if s k) (legs a c ts ++ leg_of sell t a c) ≤ slot_value_most
     value_reach_leg =
         let l : Leg = leg sell (close_of sell t) t.price t.lots in
         let b : value_if s k l ≤ max_price * max_lots = rw (leg_value_lem s k sell (close_of sell t) t.price t.lots) (value_small t z _ (leg_lots s k sell (close_of sell t) t.price t.lots)) in
-        omega (arith, value_reach, leg_reach (value_if s k) (max_price * max_lots) (legs_to area i a c) (eqb t.contract c && eqb (party_of sell t) a) l b)
+        omega (arith, value_reach, leg_reach (value_if s k) (max_price * max_lots) (legs a c ts) (eqb t.contract c && eqb (party_of sell t) a) l b)
 
 -- ---- the loop
 
-pub record Passing (Told : ℕ → Bool → List Leg → ℕ → ℕ → Type 0) (area : List ℕ) (count : ℕ) (us vs : List ℕ) (i : ℕ) : Type 0 where
-  pub within : i ≤ count
-  pub kept : Kept Told (legs_to area i) us vs
+abbrev pub Passing : (ℕ → Bool → List Leg → ℕ → ℕ → Type 0) → List Trade → List ℕ → List ℕ → ℕ → Type 0
+Passing Told ts us vs i = Kept Told (legs_to ts i) us vs
 
 -- the trade that a turn reads
-pub record TradeRead (area : List ℕ) (count i : ℕ) (t : Trade) : Type 0 where
-  pub placed : PlacedTrades area count
-  pub here : i < count
-  pub read : t ≡ trade_from (drop (trade_stride * i) area)
+pub record TradeRead (ts : List Trade) (i : ℕ) (t : Trade) : Type 0 where
+  pub placed : PlacedDay ts
+  pub here : i < length ts
+  pub read : t ≡ get_or ts i no_trade
 
-module _ {area : List ℕ} {count i : ℕ} {t : Trade} (r : TradeRead area count i t) where
+module _ {ts : List Trade} {i : ℕ} {t : Trade} (r : TradeRead ts i t) where
   its_size : Sized t
-  its_size = sized_at area count r.placed.trades i t r.here r.read
+  its_size = sized_at ts r.placed.day i t r.here r.read
 
   its_places : Placed t
-  its_places = rw (r.read, ← trade_at_lem area count i r.here) (r.placed.placed i r.here)
+  its_places = rw r.read (r.placed.placed i r.here)
 
-  module _ {close : Bool} {Told : ℕ → Bool → List Leg → ℕ → ℕ → Type 0} {F G : ℕ → ℕ → ℕ → ℕ → ℕ} (pass : Pass close Told F G) {us vs : List ℕ} (w : Passing Told area count us vs i) where
+  -- the trades before it
+  so_far : SizedDay (take i ts)
+  so_far = sized_first ts r.placed.day i
+
+  module _ {close : Bool} {Told : ℕ → Bool → List Leg → ℕ → ℕ → Type 0} {F G : ℕ → ℕ → ℕ → ℕ → ℕ} (pass : Pass close Told F G) {us vs : List ℕ} (w : Passing Told ts us vs i) where
     abbrev closes : Bool → Bool
     closes sell = same close (close_of sell t)
 
     pub buy_addable : Addable us vs (leg_slot false t) t
     buy_addable =
-        leg_addable pass w.kept false t its_places its_size (λ a c s. omega (arith, value_reach area count r.placed.trades i w.within a c s close))
+        leg_addable pass w false t its_places its_size (λ a c s. omega (arith, value_reach _ so_far a c s close))
 
     module _ {us' vs' : List ℕ} (p : us' ≡ changed (closes false) us (leg_slot false t) (F (get_or us (leg_slot false t) 0) (get_or vs (leg_slot false t) 0) t.price t.lots))
         (q : vs' ≡ changed (closes false) vs (leg_slot false t) (G (get_or us (leg_slot false t) 0) (get_or vs (leg_slot false t) 0) t.price t.lots)) where
-      pub bought : Kept Told (λ a c. legs_to area i a c ++ leg_of false t a c) us' vs'
-      bought = leg_more pass w.kept false t its_places us' vs' p q
+      pub bought : Kept Told (λ a c. legs_to ts i a c ++ leg_of false t a c) us' vs'
+      bought = leg_more pass w false t its_places us' vs' p q
 
       pub sell_addable : Addable us' vs' (leg_slot true t) t
-      sell_addable = leg_addable pass bought true t its_places its_size (λ a c s. value_reach_leg area count r.placed.trades i w.within a c s close false t its_size)
+      sell_addable = leg_addable pass bought true t its_places its_size (λ a c s. value_reach_leg _ so_far a c s close false t its_size)
 
       pub passing_more : {us'' vs'' : List ℕ} → us'' ≡ changed (closes true) us' (leg_slot true t) (F (get_or us' (leg_slot true t) 0) (get_or vs' (leg_slot true t) 0) t.price t.lots)
-          → vs'' ≡ changed (closes true) vs' (leg_slot true t) (G (get_or us' (leg_slot true t) 0) (get_or vs' (leg_slot true t) 0) t.price t.lots) → Passing Told area count us'' vs'' (i + 1)
-      passing_more {us''} {vs''} p' q' =
-          record { within = omega (arith, r.here); kept = trade_more area i t us'' vs'' r.read (leg_more pass bought true t its_places us'' vs'' p' q') }
+          → vs'' ≡ changed (closes true) vs' (leg_slot true t) (G (get_or us' (leg_slot true t) 0) (get_or vs' (leg_slot true t) 0) t.price t.lots) → Passing Told ts us'' vs'' (i + 1)
+      passing_more {us''} {vs''} p' q' = trade_more ts i t us'' vs'' r.here r.read (leg_more pass bought true t its_places us'' vs'' p' q')
 
   -- lots are added too
-  module _ (close : Bool) {us vs : List ℕ} (w : Passing (Added close) area count us vs i) where
+  module _ (close : Bool) {us vs : List ℕ} (w : Passing (Added close) ts us vs i) where
     pub buy_lots : get_or us (leg_slot false t) 0 ≤ slot_lots_most
     buy_lots =
-        omega (arith, (w.kept.tells t.buyer t.contract false its_places.buyer its_places.contract).0, lots_reach area count r.placed.trades i w.within t.buyer t.contract false close)
+        omega (arith, (w.tells t.buyer t.contract false its_places.buyer its_places.contract).0, lots_reach _ so_far t.buyer t.contract false close)
 
-    pub sell_lots : {us' vs' : List ℕ} → Kept (Added close) (λ a c. legs_to area i a c ++ leg_of false t a c) us' vs' → get_or us' (leg_slot true t) 0 ≤ slot_lots_most
+    pub sell_lots : {us' vs' : List ℕ} → Kept (Added close) (λ a c. legs_to ts i a c ++ leg_of false t a c) us' vs' → get_or us' (leg_slot true t) 0 ≤ slot_lots_most
     sell_lots b =
-        omega (arith, (b.tells t.seller t.contract true its_places.seller its_places.contract).0, lots_reach_leg area count r.placed.trades i w.within t.seller t.contract true close false t its_size)
+        omega (arith, (b.tells t.seller t.contract true its_places.seller its_places.contract).0, lots_reach_leg _ so_far t.seller t.contract true close false t its_size)
 
 -- before the first trade
 
 no_sum : (a c : ℕ) (s : Bool) → a < max_accounts → c < max_contracts → get_or {A = ℕ} (replicate slots 0) (slot_of a c s) 0 ≡ 0
 no_sum a c s la lc = get_or-replicate {A = ℕ} slots (slot_of a c s) 0 0 (slot_small a c s la lc)
 
-pub adding_none : (close : Bool) (area : List ℕ) (count : ℕ) (us vs : List ℕ) → us ≡ replicate slots 0 → vs ≡ replicate slots 0 → Passing (Added close) area count us vs 0
+pub adding_none : (close : Bool) (ts : List Trade) (us vs : List ℕ) → us ≡ replicate slots 0 → vs ≡ replicate slots 0 → Passing (Added close) ts us vs 0
 unfolding sum_of
-adding_none close area count us vs e f =
+adding_none close ts us vs e f =
     rw (e, f)
     (record {
-      within = omega arith;
-      kept = record {
-        room = length-replicate {A = ℕ} slots 0;
-        room_too = length-replicate {A = ℕ} slots 0;
-        tells = λ a c s la lc. rw (no_legs area a c) (no_sum a c s la lc, no_sum a c s la lc);
-      };
+      room = length-replicate {A = ℕ} slots 0;
+      room_too = length-replicate {A = ℕ} slots 0;
+      tells = λ a c s la lc. rw (no_legs ts a c) (no_sum a c s la lc, no_sum a c s la lc);
     })
 
-pub taking_none : (area : List ℕ) (count : ℕ) (left vs : List ℕ) → length left ≡ slots → vs ≡ replicate slots 0 → Passing (Taken left) area count left vs 0
+pub taking_none : (ts : List Trade) (left vs : List ℕ) → length left ≡ slots → vs ≡ replicate slots 0 → Passing (Taken left) ts left vs 0
 unfolding batches_of first_lots cost sum_of
-taking_none area count left vs h f =
+taking_none ts left vs h f =
     rw f
     (record {
-      within = omega arith;
-      kept = record {
-        room = h;
-        room_too = length-replicate {A = ℕ} slots 0;
-        tells = λ a c s la lc. rw (no_legs area a c) (omega arith, no_sum a c s la lc);
-      };
+      room = h;
+      room_too = length-replicate {A = ℕ} slots 0;
+      tells = λ a c s la lc. rw (no_legs ts a c) (omega arith, no_sum a c s la lc);
     })
+
+-- behind the last
+module _ (ts : List Trade) (us vs : List ℕ) (i : ℕ) (h : length ts ≤ i) where
+  pub all_added : (close : Bool) → Passing (Added close) ts us vs i → SumsAre close ts us vs
+  all_added close w =
+      let k = rw (take_all i ts h) at w.tells in
+      record { lots_are = λ a c s la lc. (k a c s la lc).0; value_is = λ a c s la lc. (k a c s la lc).1 }
+
+  pub all_taken : (left : List ℕ) → Passing (Taken left) ts us vs i → UsedAre ts left vs × LeftAre ts left us
+  all_taken left w =
+      let k = rw (take_all i ts h) at w.tells in
+      (record { each = λ a c s la lc. (k a c s la lc).1 }, record { each = λ a c s la lc. (k a c s la lc).0 })

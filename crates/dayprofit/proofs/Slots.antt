@@ -1,15 +1,14 @@
 -- Sums in slots, as the passes over the day's trades keep them: a leg changes its own slot alone, so what is known of every slot by the
 -- legs so far is known with one trade more. Assumes nothing.
 use Rattle.laws.specs.Logic.{Bool, true, false, ◌&&◌, List, [], ◌∷◌, ◌++◌, append-nil, append_assoc, ◌≡◌, refl, sym, ap, subst, ◌∙◌}
-use Rattle.laws.specs.Numbers.{ℕ, ◌+◌, ◌*◌, ◌<◌, ◌≤◌, arith, eqb-true, eqb-false, eqb, leb, length, get_or, set, drop, length-set, get_or-set_same}
+use Rattle.laws.specs.Numbers.{ℕ, ◌+◌, ◌<◌, ◌≤◌, arith, eqb-true, eqb-false, eqb, leb, length, get_or, set, take, length-set, get_or-set_same}
 use Rattle.laws.specs.Numbers.{get_or-set_other}
 use Rattle.laws.specs.Choice.{pick, both_false}
 use Rattle.laws.specs.Sums.{sum_of}
 use Rattle.rules.specs.Bounds.{max_accounts, max_contracts}
-use Rattle.rules.specs.Memory.{recorded_trades, trade_from, trade_stride}
+use Rattle.rules.specs.Exchange.{no_trade}
 use Rattle.rules.specs.Settlement.{Leg, leg, only, legs}
 use Rattle.rules.specs.declared.Trade.{Trade}
-use Rattle.theory.proofs.Codecs.{trades_none}
 use Rattle.accounting.proofs.Trades.{legs_append}
 use Rattle.dayprofit.specs.Day.{Sized}
 use Rattle.dayprofit.specs.Sides.{same, value_if}
@@ -183,29 +182,29 @@ module _ {close : Bool} {Told : ℕ → Bool → List Leg → ℕ → ℕ → Ty
 
 -- ---- the loop: the legs of the first i trades
 
-abbrev pub legs_to : List ℕ → ℕ → ℕ → ℕ → List Leg
-legs_to area i a c = legs a c (recorded_trades area i)
+abbrev pub legs_to : List Trade → ℕ → ℕ → ℕ → List Leg
+legs_to ts i a c = legs a c (take i ts)
 
 trade_legs : (a c : ℕ) (t : Trade) → legs a c (t ∷ []) ≡ leg_of false t a c ++ leg_of true t a c
 unfolding legs
 trade_legs a c t = ap (λ (ls : List Leg). leg_of false t a c ++ ls) (append-nil (leg_of true t a c))
 
-more_legs : (area : List ℕ) (i : ℕ) (t : Trade) → t ≡ trade_from (drop (trade_stride * i) area) → (a c : ℕ)
-    → (legs_to area i a c ++ leg_of false t a c) ++ leg_of true t a c ≡ legs_to area (i + 1) a c
-more_legs area i t e a c =
-    append_assoc (legs_to area i a c) (leg_of false t a c) (leg_of true t a c) ∙ ap (λ (ls : List Leg). legs_to area i a c ++ ls) (sym (trade_legs a c t))
-    ∙ sym (legs_append a c (recorded_trades area i) (t ∷ [])) ∙ ap (legs a c) (sym (more_trades area i t e))
+more_legs : (ts : List Trade) (i : ℕ) (t : Trade) → i < length ts → t ≡ get_or ts i no_trade → (a c : ℕ)
+    → (legs_to ts i a c ++ leg_of false t a c) ++ leg_of true t a c ≡ legs_to ts (i + 1) a c
+more_legs ts i t h e a c =
+    append_assoc (legs_to ts i a c) (leg_of false t a c) (leg_of true t a c) ∙ ap (λ (ls : List Leg). legs_to ts i a c ++ ls) (sym (trade_legs a c t))
+    ∙ sym (legs_append a c (take i ts) (t ∷ [])) ∙ ap (legs a c) (sym (more_trades ts i t h e))
 
-pub trade_more : {Told : ℕ → Bool → List Leg → ℕ → ℕ → Type 0} (area : List ℕ) (i : ℕ) (t : Trade) (us vs : List ℕ)
-    → t ≡ trade_from (drop (trade_stride * i) area) → Kept Told (λ a c. (legs_to area i a c ++ leg_of false t a c) ++ leg_of true t a c) us vs
-    → Kept Told (legs_to area (i + 1)) us vs
-trade_more {Told} area i t us vs e w =
+pub trade_more : {Told : ℕ → Bool → List Leg → ℕ → ℕ → Type 0} (ts : List Trade) (i : ℕ) (t : Trade) (us vs : List ℕ)
+    → i < length ts → t ≡ get_or ts i no_trade → Kept Told (λ a c. (legs_to ts i a c ++ leg_of false t a c) ++ leg_of true t a c) us vs
+    → Kept Told (legs_to ts (i + 1)) us vs
+trade_more {Told} ts i t us vs h e w =
     record {
       room = w.room;
       room_too = w.room_too;
-      tells = λ a c s la lc. subst (λ (ls : List Leg). Told (slot_of a c s) s ls (get_or us (slot_of a c s) 0) (get_or vs (slot_of a c s) 0)) (more_legs area i t e a c) (w.tells a c s la lc);
+      tells = λ a c s la lc. subst (λ (ls : List Leg). Told (slot_of a c s) s ls (get_or us (slot_of a c s) 0) (get_or vs (slot_of a c s) 0)) (more_legs ts i t h e a c) (w.tells a c s la lc);
     }
 
-pub no_legs : (area : List ℕ) (a c : ℕ) → legs_to area 0 a c ≡ []
+pub no_legs : (ts : List Trade) (a c : ℕ) → legs_to ts 0 a c ≡ []
 unfolding legs
-no_legs area a c = rw trades_none
+no_legs ts a c = refl

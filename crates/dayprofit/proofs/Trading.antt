@@ -3,34 +3,29 @@
 use mir.Facts.{Fits-below}
 use mir.Syntax.{w64}
 use mir.Val.{Fits}
-use Rattle.laws.specs.Logic.{Bool, true, false, List, [], ◌∷◌, ◌++◌, ◌≡◌, refl, sym, ap, ◌∙◌}
-use Rattle.laws.specs.Numbers.{ℕ, suc, ◌+◌, ◌-◌, ◌*◌, ◌<◌, ◌≤◌, mul-le-mul_right, arith, eq-eqb, ne_eqb, eqb, length, drop}
+use Rattle.laws.specs.Logic.{Bool, true, false, List, [], ◌∷◌, ◌++◌, ◌≡◌, refl, ap, ◌∙◌}
+use Rattle.laws.specs.Numbers.{ℕ, suc, ◌+◌, ◌*◌, ◌<◌, ◌≤◌, add-one, mul-le-mul_right, arith, eq-eqb, ne_eqb, eqb, length, length-take, get_or, take, drop}
+use Rattle.laws.specs.Numbers.{take-append-drop, take-suc, take_all}
 use Rattle.laws.specs.Choice.{pick}
 use Rattle.laws.specs.Sums.{sum_of, sum_of_append}
-use Rattle.areas.specs.Records.{records, decode}
-use Rattle.areas.proofs.Records.{records_add}
 use Rattle.rules.specs.Bounds.{max_trades}
+use Rattle.rules.specs.Exchange.{no_trade}
 use Rattle.rules.specs.Matching.{traded_lots}
-use Rattle.rules.specs.Memory.{recorded_trades, trade_from, trade_stride}
+use Rattle.rules.specs.Memory.{recorded_trades}
 use Rattle.rules.specs.Settlement.{trades_in, traded_value}
 use Rattle.rules.specs.declared.Trade.{Trade}
-use Rattle.theory.proofs.Codecs.{trade_codec, length_trades, trades_none}
-use Rattle.dayprofit.specs.Day.{Sized, AllSized, SizedTrades, TurnoverIs}
+use Rattle.theory.proofs.Codecs.{length_trades}
+use Rattle.dayprofit.specs.Day.{Sized, AllSized, SizedDay, SizedTrades, TurnoverIs}
+use Rattle.dayprofit.specs.Slots.{PlacedDay, PlacedTrades}
 use Rattle.dayprofit.specs.declared.price.Turnover.{Turnover}
 
 -- ---- one more trade
 
-pub more_trades : (area : List ℕ) (i : ℕ) (t : Trade) → t ≡ trade_from (drop (trade_stride * i) area) → recorded_trades area (i + 1) ≡ recorded_trades area i ++ (t ∷ [])
-unfolding recorded_trades records decode
-more_trades area i t e =
-    let k : 0 + trade_stride * i ≡ trade_stride * i = omega arith in
-    rw (e, ← k) (records_add trade_codec area 0 i 1)
+pub more_trades : (ts : List Trade) (i : ℕ) (t : Trade) → i < length ts → t ≡ get_or ts i no_trade → take (i + 1) ts ≡ take i ts ++ (t ∷ [])
+more_trades ts i t h e = rw (e, add-one i) (take-suc ts i no_trade h)
 
-split_trades : (area : List ℕ) (i n : ℕ) → i ≤ n → recorded_trades area n ≡ recorded_trades area i ++ records trade_stride trade_from area (0 + trade_stride * i) (n - i)
-unfolding recorded_trades
-split_trades area i n h =
-    let e : i + (n - i) ≡ n = omega arith in
-    ap (λ (k : ℕ). records trade_stride trade_from area 0 k) (sym e) ∙ records_add trade_codec area 0 i (n - i)
+few_first : (ts : List Trade) (i : ℕ) → length (take i ts) ≤ length ts
+few_first ts i = omega (arith, length-take i ts)
 
 -- ---- trades in their ranges
 
@@ -39,14 +34,26 @@ unfolding AllSized
 sized_append [] us s = (tt, s)
 sized_append (t ∷ ts) us s = let r = sized_append ts us s.1 in ((s.0, r.0), r.1)
 
-module _ (area : List ℕ) (count : ℕ) (s : SizedTrades area count) where
-  -- the first trades, and one of them
-  pub sized_first : (i : ℕ) → i ≤ count → AllSized (recorded_trades area i)
-  sized_first i h = (sized_append (recorded_trades area i) _ (rw (split_trades area i count h) at s.sized)).0
+-- those of an area
+pub sized_day : (area : List ℕ) (count : ℕ) → SizedTrades area count → SizedDay (recorded_trades area count)
+sized_day area count s = record { few = rw length_trades s.few; sized = s.sized }
 
-  pub sized_at : (i : ℕ) (t : Trade) → i < count → t ≡ trade_from (drop (trade_stride * i) area) → Sized t
+pub placed_day : {area : List ℕ} {count : ℕ} → PlacedTrades area count → PlacedDay (recorded_trades area count)
+placed_day {area} {count} p =
+    record { day = sized_day area count p.trades; placed = λ i l. p.placed i (rw (length_trades area count) at l) }
+
+module _ (ts : List Trade) (s : SizedDay ts) where
+  -- the first trades, and one of them
+  pub sized_first : (i : ℕ) → SizedDay (take i ts)
+  sized_first i =
+      record {
+        few = omega (arith, few_first ts i, s.few);
+        sized = (sized_append (take i ts) (drop i ts) (rw (take-append-drop i ts) s.sized)).0;
+      }
+
+  pub sized_at : (i : ℕ) (t : Trade) → i < length ts → t ≡ get_or ts i no_trade → Sized t
   unfolding AllSized
-  sized_at i t h e = (sized_append (recorded_trades area i) (t ∷ []) (rw (more_trades area i t e) at (sized_first (i + 1) (omega arith)))).1.0
+  sized_at i t h e = (sized_append (take i ts) (t ∷ []) (rw (more_trades ts i t h e) at (sized_first (i + 1)).sized)).1.0
 
 -- ---- value and lots
 
@@ -106,33 +113,37 @@ module _ (c : ℕ) (t : Trade) where
 
 -- ---- the loop over the day's trades: value and lots of the first i, as far as they are the contract's
 
-pub record Trading (area : List ℕ) (count c v l i : ℕ) : Type 0 where
-  pub within : i ≤ count
-  pub value : v ≡ traded_value (trades_in c (recorded_trades area i))
-  pub lots : l ≡ traded_lots (trades_in c (recorded_trades area i))
+pub record Trading (ts : List Trade) (c v l i : ℕ) : Type 0 where
+  pub value : v ≡ traded_value (trades_in c (take i ts))
+  pub lots : l ≡ traded_lots (trades_in c (take i ts))
 
-pub trading_none : (area : List ℕ) (count c : ℕ) → Trading area count c 0 0 0
+pub trading_none : (ts : List Trade) (c : ℕ) → Trading ts c 0 0 0
 unfolding trades_in traded_value traded_lots sum_of
-trading_none area count c = record { within = omega arith; value = rw trades_none; lots = rw trades_none }
+trading_none ts c = record { value = refl; lots = refl }
 
-module _ (area : List ℕ) (count c : ℕ) (s : SizedTrades area count) where
-  turnover_small : (value lots i : ℕ) → Trading area count c value lots i → (value ≤ 1_024_000_000_000) × (lots ≤ 1_024_000)
+pub trading_all : (ts : List Trade) (c value lots i : ℕ) → length ts ≤ i → Trading ts c value lots i → TurnoverIs (trades_in c ts) (record { value = value; lots = lots })
+trading_all ts c value lots i h w =
+    let e : take i ts ≡ ts = take_all i ts h in
+    record { value = rw e at w.value; lots = rw e at w.lots }
+
+module _ (ts : List Trade) (c : ℕ) (s : SizedDay ts) where
+  turnover_small : (value lots i : ℕ) → Trading ts c value lots i → (value ≤ 1_024_000_000_000) × (lots ≤ 1_024_000)
   turnover_small value lots i w =
-      let ts : List Trade = trades_in c (recorded_trades area i) in
-      let z : AllSized ts = trades_in_sized c (recorded_trades area i) (sized_first area count s i w.within) in
-      let n : length ts ≤ max_trades = omega (arith, trades_in_few c (recorded_trades area i), length_trades area i, w.within, s.few) in
-      let l : traded_lots ts ≤ 1_024_000 = omega (arith, lots_small ts z) in
-      (omega (arith, value_small ts z, w.value), omega (arith, w.lots))
+      let us : List Trade = trades_in c (take i ts) in
+      let z : AllSized us = trades_in_sized c (take i ts) (sized_first ts s i).sized in
+      let n : length us ≤ max_trades = omega (arith, trades_in_few c (take i ts), (sized_first ts s i).few) in
+      let l : traded_lots us ≤ 1_024_000 = omega (arith, lots_small us z) in
+      (omega (arith, value_small us z, w.value), omega (arith, w.lots))
 
-  pub trading_more : (value lots i : ℕ) (t : Trade) (p : Turnover) → i < count → Trading area count c value lots i → t ≡ trade_from (drop (trade_stride * i) area)
-      → TurnoverIs (trades_in c (t ∷ [])) p → Trading area count c (value + p.value) (lots + p.lots) (i + 1)
+  pub trading_more : (value lots i : ℕ) (t : Trade) (p : Turnover) → i < length ts → Trading ts c value lots i → t ≡ get_or ts i no_trade
+      → TurnoverIs (trades_in c (t ∷ [])) p → Trading ts c (value + p.value) (lots + p.lots) (i + 1)
   unfolding traded_value traded_lots
   trading_more value lots i t p h w e q =
-      let f : trades_in c (recorded_trades area (i + 1)) ≡ trades_in c (recorded_trades area i) ++ trades_in c (t ∷ []) =
-      ap (trades_in c) (more_trades area i t e) ∙ trades_in_append c (recorded_trades area i) (t ∷ []) in
-      record { within = omega arith; value = rw (f, sum_of_append, w.value, q.value); lots = rw (f, sum_of_append, w.lots, q.lots) }
+      let f : trades_in c (take (i + 1) ts) ≡ trades_in c (take i ts) ++ trades_in c (t ∷ []) =
+      ap (trades_in c) (more_trades ts i t h e) ∙ trades_in_append c (take i ts) (t ∷ []) in
+      record { value = rw (f, sum_of_append, w.value, q.value); lots = rw (f, sum_of_append, w.lots, q.lots) }
 
-  module _ (value lots i : ℕ) (t : Trade) (p : Turnover) (h : i < count) (w : Trading area count c value lots i) (e : t ≡ trade_from (drop (trade_stride * i) area))
+  module _ (value lots i : ℕ) (t : Trade) (p : Turnover) (h : i < length ts) (w : Trading ts c value lots i) (e : t ≡ get_or ts i no_trade)
       (q : TurnoverIs (trades_in c (t ∷ [])) p) where
     pub value_fits : Fits w64 (value + p.value)
     value_fits = Fits-below {n = 1_024_000_000_000} tt (turnover_small _ _ _ (trading_more value lots i t p h w e q)).0
@@ -140,5 +151,5 @@ module _ (area : List ℕ) (count c : ℕ) (s : SizedTrades area count) where
     pub lots_fits : Fits w64 (lots + p.lots)
     lots_fits = Fits-below {n = 1_024_000} tt (turnover_small _ _ _ (trading_more value lots i t p h w e q)).1
 
-  pub contract_sized : AllSized (trades_in c (recorded_trades area count))
-  contract_sized = trades_in_sized c (recorded_trades area count) s.sized
+  pub contract_sized : AllSized (trades_in c ts)
+  contract_sized = trades_in_sized c ts s.sized

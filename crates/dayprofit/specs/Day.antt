@@ -19,6 +19,11 @@ unfoldable pub AllSized : List Trade → Type 0
 AllSized [] = Unit {0}
 AllSized (t ∷ ts) = Sized t × AllSized ts
 
+-- a day's trades
+pub record SizedDay (ts : List Trade) : Type 0 where
+  pub few : length ts ≤ max_trades
+  pub sized : AllSized ts
+
 -- the trades recorded in an area
 pub record SizedTrades (area : List ℕ) (count : ℕ) : Type 0 where
   pub few : count ≤ max_trades

@@ -9,7 +9,7 @@ use Rattle.rules.specs.Memory.{recorded_trades}
 use Rattle.rules.specs.Settlement.{legs, first_lots}
 use Rattle.rules.specs.declared.Holding.{Holding}
 use Rattle.rules.specs.declared.Trade.{Trade}
-use Rattle.dayprofit.specs.Day.{Sized, SizedTrades}
+use Rattle.dayprofit.specs.Day.{Sized, SizedDay, SizedTrades}
 use Rattle.dayprofit.specs.Sides.{lots_if, value_if, opened_today, cost, side_from, SumsSmall, ProfitFrom, day_lots_most}
 use Rattle.dayprofit.specs.declared.profit.Profit.{Profit}
 use Rattle.dayprofit.specs.declared.profit.Sums.{Sums}
@@ -44,6 +44,12 @@ pub record Placed (t : Trade) : Type 0 where
   pub buyer : t.buyer < max_accounts
   pub seller : t.seller < max_accounts
 
+-- a day's trades
+pub record PlacedDay (ts : List Trade) : Type 0 where
+  pub day : SizedDay ts
+  pub placed : (i : ℕ) → i < length ts → Placed (get_or ts i no_trade)
+
+-- the trades recorded in an area
 pub record PlacedTrades (area : List ℕ) (count : ℕ) : Type 0 where
   pub trades : SizedTrades area count
   pub placed : (i : ℕ) → i < count → Placed (get_or (recorded_trades area count) i no_trade)

@@ -2,12 +2,11 @@
 // room of what it reads and for trades and terms in the ranges of a well-formed state.
 ghost use Rattle.std.specs.Prelude.{◌≡◌, [], ◌∷◌, ◌*◌, ◌/◌, ◌<◌, ◌≤◌};
 ghost use Rattle.rules.specs.Bounds.{max_price};
-ghost use Rattle.rules.specs.Memory.{recorded_trades};
 ghost use Rattle.rules.specs.Settlement.{quoted_price, trades_in};
-ghost use Rattle.dayprofit.specs.Day.{Sized, SizedTrades, TurnoverIs, Priceable, PriceIs};
+ghost use Rattle.dayprofit.specs.Day.{Sized, SizedDay, TurnoverIs, Priceable, PriceIs};
 
 use book::orders::Queue;
-use book::trades;
+use book::trades::Trades;
 use rules::{Contract, Trade};
 
 // What trades of a contract came to, price x lots, and their lots.
@@ -32,14 +31,14 @@ fn part(t: Trade, contract: u32) -> Turnover
     }
 }
 
-fn traded(area: &[u32], count: usize, contract: u32) -> Turnover
-    requires { SizedTrades area.now count }
-    ensures { TurnoverIs (trades_in contract (recorded_trades area.now count)) result }
+fn traded(day: &Trades<'_>, contract: u32) -> Turnover
+    requires { SizedDay day.now }
+    ensures { TurnoverIs (trades_in contract day.now) result }
 {
     let mut value: u64 = 0;
     let mut lots: u64 = 0;
-    for i in 0..count {
-        let p = part(trades::trade_at(area, i), contract);
+    for i in 0..day.len() {
+        let p = part(day.trade(i), contract);
         value += p.value;
         lots += p.lots;
     }
@@ -70,6 +69,7 @@ fn quoted(reference: u32, buys: &Queue<'_>, sells: &Queue<'_>) -> u32
 }
 
 // "the day's trades weighted by lots"; without a trade the quotes, or else the reference.
+// The trades come as an area and a count, and not as a `Trades`: docs/RULES.md names this call.
 pub fn settlement_price<'a>(
     contract: Contract,
     buys: &'a [u32],
@@ -83,7 +83,7 @@ pub fn settlement_price<'a>(
     requires { Priceable contract buys.now buycount sells.now sellcount area.now count c }
     ensures { PriceIs contract buys.now buycount sells.now sellcount area.now count c result }
 {
-    let day = traded(area, count, c as u32);
+    let day = traded(&Trades::new(area, count), c as u32);
     if day.lots == 0 {
         let bids = Queue::new(buys, c, buycount);
         let offers = Queue::new(sells, c, sellcount);

@@ -36,6 +36,7 @@ pub struct Profit {
 }
 
 // Sells close long lots and open short ones, buys the other way round.
+// Arrays side by side: the contracts name them one by one, and there is no heap.
 fn sums_at<'a>(
     closed: &'a [u32],
     closes: &'a [u64],

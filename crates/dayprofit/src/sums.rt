@@ -1,14 +1,12 @@
 // What the day's legs come to, of every account in every contract, by passes over the trades: the lots and the value of the legs that
 // close, and of those that open, then what the closed ones of today's lots were opened for. A sum stands in the slot of its account,
-// contract and side. For our own crates: each function asks for the room of the trades and for values in the ranges of a well-formed
-// state.
+// contract and side. For our own crates: each function asks for values in the ranges of a well-formed state.
 ghost use Rattle.std.specs.Prelude.{false, not, ◌≡◌, ◌+◌, ◌-◌, ◌*◌, ◌<◌, ◌≤◌, min, length, get_or, set, replicate};
 ghost use Rattle.rules.specs.Bounds.{max_contracts, max_accounts};
-ghost use Rattle.rules.specs.Memory.{recorded_trades};
 ghost use Rattle.dayprofit.specs.Sides.{same};
-ghost use Rattle.dayprofit.specs.Slots.{slot_of, close_of, leg_slot, changed, Placed, PlacedTrades, Addable, SumsAre, UsedAre, LeftAre, slots, slot_lots_most};
+ghost use Rattle.dayprofit.specs.Slots.{slot_of, close_of, leg_slot, changed, Placed, PlacedDay, Addable, SumsAre, UsedAre, LeftAre, slots, slot_lots_most};
 
-use book::trades;
+use book::trades::Trades;
 use rules::Trade;
 
 // Buys and sells in each contract, for one account and for all.
@@ -54,12 +52,12 @@ fn add_leg(lots: &mut [u32], value: &mut [u64], t: Trade, sell: bool, close: boo
 }
 
 // The lots and the value of the legs that close, or that open.
-pub fn add_up(area: &[u32], count: usize, close: bool, lots: &mut [u32], value: &mut [u64])
-    requires { PlacedTrades area.now count × (lots.old ≡ replicate slots 0) × (value.old ≡ replicate slots 0) }
-    ensures { SumsAre close (recorded_trades area.now count) lots.new value.new }
+pub fn add_up(day: &Trades<'_>, close: bool, lots: &mut [u32], value: &mut [u64])
+    requires { PlacedDay day.now × (lots.old ≡ replicate slots 0) × (value.old ≡ replicate slots 0) }
+    ensures { SumsAre close day.now lots.new value.new }
 {
-    for i in 0..count {
-        let t = trades::trade_at(area, i);
+    for i in 0..day.len() {
+        let t = day.trade(i);
         add_leg(lots, value, t, false, close);
         add_leg(lots, value, t, true, close);
     }
@@ -89,12 +87,12 @@ fn take_leg(left: &mut [u32], used: &mut [u64], t: Trade, sell: bool)
 }
 
 // "today's in trade order": what the first lots opened on each side were opened for, as many as `left` says.
-pub fn take_first(area: &[u32], count: usize, left: &mut [u32], used: &mut [u64])
-    requires { PlacedTrades area.now count × (length left.old ≡ slots) × (used.old ≡ replicate slots 0) }
-    ensures { UsedAre (recorded_trades area.now count) left.old used.new × LeftAre (recorded_trades area.now count) left.old left.new }
+pub fn take_first(day: &Trades<'_>, left: &mut [u32], used: &mut [u64])
+    requires { PlacedDay day.now × (length left.old ≡ slots) × (used.old ≡ replicate slots 0) }
+    ensures { UsedAre day.now left.old used.new × LeftAre day.now left.old left.new }
 {
-    for i in 0..count {
-        let t = trades::trade_at(area, i);
+    for i in 0..day.len() {
+        let t = day.trade(i);
         take_leg(left, used, t, false);
         take_leg(left, used, t, true);
     }

@@ -1,5 +1,6 @@
 // Bytes and little-endian numbers written into a lent area, and a signed number as eight bytes hold it. For the crates of this
 // repository: a call that writes requires room, and gives the place after what it wrote.
+// Buffer and place stay two parameters: a struct of both needs a clause more in each contract, that it still holds the same buffer.
 ghost use Rattle.std.specs.Prelude.{[], ◌∷◌, ◌≡◌, ◌+◌, ◌≤◌, nat_abs, length, take, drop};
 ghost use Rattle.endian.specs.Numbers as numbers;
 ghost use Rattle.endian.specs.Numbers.{two, four, eight};
@@ -13,6 +14,7 @@ pub fn put_byte(out: &mut [u8], at: usize, byte: u8) -> usize
     at + 1
 }
 
+// A function for each width, since each integer type has a `to_le_bytes` of its own, and each width its definition.
 pub fn put_u16(out: &mut [u8], at: usize, n: u16) -> usize
     requires { at + 2 ≤ length out.old }
     ensures { Written 2 out.old at (two n) out.new result }
@@ -52,7 +54,7 @@ pub fn unsigned(x: i64) -> u64
     x.cast_unsigned()
 }
 
-// The n bytes of the file from `from` on.
+// The n bytes of the file from `from` on. The library's copy, under the name and definition of what it is for.
 pub fn put_part(out: &mut [u8], at: usize, file: &[u8], from: usize, n: usize) -> usize
     requires { (at + n ≤ length out.old) × (from + n ≤ length file.now) }
     ensures { Written n out.old at (take n (drop from file.now)) out.new result }

@@ -1,4 +1,5 @@
-// One command. `execute` and `execute_record` are calls for users: they answer on anything.
+// One command. `execute` and `execute_record` are calls for users: they answer on anything. They take the
+// state and its areas one by one, as C lends them.
 ghost use Rattle.std.specs.Prelude.{◌≡◌};
 ghost use Rattle.rules.specs.Command.{command_of};
 ghost use Rattle.rules.specs.DayFile.{command_from};

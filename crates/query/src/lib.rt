@@ -108,7 +108,8 @@ fn asked_of<'a>(
     reading_of(&market, o)
 }
 
-// A call for users: it answers on anything. The order is asked for by the record that would insert it.
+// A call for users: it answers on anything. The order is asked for by the record that would insert it. The state and its areas are
+// taken one by one, as C lends them.
 pub fn gettable_record<'a>(
     state: State,
     buys: &'a [u32],

@@ -124,7 +124,7 @@ fn first_made(recorded: usize) -> usize
     rules::TRADE_STRIDE * recorded.min(TRADES_WITH_ROOM)
 }
 
-// The words of an area from a place on are kept.
+// The words of an area from a place on are kept: the library's copy, under the name of what it is for.
 fn keep(area: &[u32], at: usize, kept: &mut [u32])
     requires { at + length kept.old ≤ length area.now }
     ensures { kept.new ≡ take (length kept.old) (drop at area.now) }
@@ -132,7 +132,7 @@ fn keep(area: &[u32], at: usize, kept: &mut [u32])
     kept.copy_from_slice(&area[at..at + kept.len()]);
 }
 
-// And put back.
+// And put back: the same copy the other way.
 fn put_back(area: &mut [u32], at: usize, kept: &[u32])
     requires { at + length kept.now ≤ length area.old }
     ensures { area.new ≡ over area.old at kept.now }

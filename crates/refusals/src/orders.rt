@@ -77,7 +77,7 @@ pub fn day_limit(
     }
 }
 
-// The area of a side.
+// The area of a side. Not by `by_side`: the promise here tells the words of the area.
 pub fn side_area<'a>(sell: bool, buys: &'a [u32], sells: &'a [u32]) -> &'a [u32]
     ensures { result.now ≡ side_area sell buys.now sells.now }
 {

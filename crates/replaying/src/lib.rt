@@ -22,6 +22,7 @@ fn is_covered(a: Account, c: usize, sell: bool, close: u32, lots: u32) -> bool
 }
 
 // The accounts after the trades, and none where a close does not find its lots.
+// The trades come as an area and a count, and not as a `Trades`: docs/RULES.md names this call.
 pub fn replay(
     accounts: [Account; rules::MAX_ACCOUNTS],
     contracts: usize,

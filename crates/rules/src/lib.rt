@@ -5,6 +5,9 @@
 //
 // A record with `#[repr(C)]` lies in memory as a C compiler lays it out: programs in other languages hand it in as it is, with whatever
 // numbers they have in it. So a phase, a pairing method and a mark stay numbers in these records, and no enum or bool.
+//
+// Counts and places are plain numbers, as C and files have them, and what they may be stands in the contracts: a type of their own
+// would be made and taken apart at each index.
 
 #![tactic(auto)]
 

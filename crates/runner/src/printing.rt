@@ -13,6 +13,7 @@ use lines::line::{put_account, put_price, put_trade};
 use rules::Account;
 
 // T lines of the day's trades from place `first` on, `count` of them being recorded: none where there are no more than `first`.
+// The trades come as an area and a count, and not as a `Trades`: docs/RULES.md names this call.
 pub fn put_trades(out: &mut [u8], at: usize, area: &[u32], first: usize, count: usize) -> usize
     requires { (count ≤ max_trades) × (trade_stride * count ≤ length area.now) × (at + trade_line_most * (count - first) ≤ length out.old) }
     ensures { Written (trade_line_most * (count - first)) out.old at (trade_lines (first + 1) (drop first (recorded_trades area.now count))) out.new result }

@@ -43,7 +43,7 @@ fn not_written(code: Code) -> Saved
     }
 }
 
-// A call for users: it answers on anything.
+// A call for users: it answers on anything. It takes the state and its areas one by one, as C lends them.
 pub fn write_state(
     state: State,
     buys: &[u32],
@@ -85,6 +85,7 @@ fn not_loaded(code: Code, state: State) -> Loaded
 }
 
 // A call for users: it answers on anything, and looks at nothing of the state given but what it leaves as it was.
+// The state and its areas one by one, as C lends them.
 pub fn read_state(file: &[u8], state: State, buys: &[u32], sells: &[u32], trades: &[u32]) -> Loaded
     ensures { ReadIs (memory state buys.now sells.now trades.now) file.now result.code result.state }
 {

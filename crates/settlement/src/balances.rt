@@ -9,6 +9,7 @@ ghost use Rattle.dayprofit.specs.Sides.{profit_most};
 ghost use Rattle.dayprofit.specs.Slots.{slots};
 ghost use Rattle.settlement.specs.Settling.{Totallable, TotalFrom, AllDue, carried_account, AllPayable, BooksIs, account_profit_most};
 
+use book::trades::Trades;
 use dayprofit::profit::Profit;
 use dayprofit::{profit, sums};
 use rules::{Account, Contract, Holding, State};
@@ -37,7 +38,7 @@ struct Priced {
 }
 
 // An account's profit: "times multiplier", over all contracts. It takes the account and not the state: to read one account of many at a
-// place that is not known beforehand, a call copies them all.
+// place that is not known beforehand, a call copies them all. The sums side by side: the contracts name them one by one, no heap.
 fn total<'a>(
     holder: Account,
     priced: Priced,
@@ -131,10 +132,11 @@ pub fn all_paid(state: State, trades: &[u32], prices: [u32; rules::MAX_CONTRACTS
     let mut opens: [u64; sums::SLOTS] = [0; sums::SLOTS];
     let mut left: [u32; sums::SLOTS] = [0; sums::SLOTS];
     let mut used: [u64; sums::SLOTS] = [0; sums::SLOTS];
-    sums::add_up(trades, state.tradecount, true, &mut closed, &mut closes);
-    sums::add_up(trades, state.tradecount, false, &mut opened, &mut opens);
+    let day = Trades::new(trades, state.tradecount);
+    sums::add_up(&day, true, &mut closed, &mut closes);
+    sums::add_up(&day, false, &mut opened, &mut opens);
     put_all_due(state, &closed, &mut left);
-    sums::take_first(trades, state.tradecount, &mut left, &mut used);
+    sums::take_first(&day, &mut left, &mut used);
     let priced = Priced {
         contracts: state.contracts,
         prices,

@@ -23,7 +23,7 @@ pub struct Statement {
 }
 
 // A call for users: it answers on anything. `starts` has eight words for each client, long and short lots in each of four contracts;
-// `postings` has two words for each posting, an order's number and a client's.
+// `postings` has two words for each posting, an order's number and a client's. State and areas one by one, as C lends them.
 pub fn client_statement<'a>(
     state: State,
     buys: &'a [u32],

@@ -81,6 +81,7 @@ fn put_trade(out: &mut [u8], at: usize, t: Trade) -> usize
     put_side(out, next, t, t.seller, 1, t.sellclose, t.sellorder)
 }
 
+// The trades come as an area and a count, and not as a `Trades`: docs/RULES.md names this call.
 fn put_trades(area: &[u32], count: usize, out: &mut [u8], at: usize) -> usize
     requires count_in_bounds { (trade_stride * count ≤ length area.now) × (at + length (statement.trades_bytes (recorded_trades area.now count)) ≤ length out.old) }
     requires by_index { (i : ℕ) → i < count → (get_or (recorded_trades area.now count) i no_trade).contract < max_contracts }
@@ -119,7 +120,7 @@ fn put_profits(
     next
 }
 
-// The three sections, each after its count.
+// The three sections, each after its count. The trades come as `put_trades` takes them.
 pub fn put_statement(
     out: &mut [u8],
     area: &[u32],

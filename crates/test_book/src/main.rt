@@ -7,7 +7,7 @@ ghost use Rattle.rules.specs.declared.PairingMethod.TheVariants.{Middle};
 ghost use Rattle.test_book.specs.Known.{AccountsKnown, no_holdings};
 
 use book::orders::Queue;
-use book::trades;
+use book::trades::Trades;
 use matching::entry;
 use matching::entry::Entry;
 use rules::{Account, Holding, PairingMethod, PriceCondition, Taker};
@@ -203,8 +203,9 @@ fn print_queue(side: &Side) {
 }
 
 fn print_trades(day: &Day) {
-    for i in 0..day.count.min(TRADES) {
-        let t = trades::trade_at(&day.area, i);
+    let trades = Trades::new(&day.area, day.count.min(TRADES));
+    for i in 0..trades.len() {
+        let t = trades.trade(i);
         print_lots(t.lots, t.price);
     }
 }

@@ -5,43 +5,37 @@ use Rattle.rules.specs.Exchange.{account_at, holding_at}
 use Rattle.rules.specs.Memory.{listing_in}
 use Rattle.theory.proofs.Codecs.{length_queue}
 use Rattle.invariants.proofs.MemoryRoom.{counts_ok}
-use Rattle.audit.specs.Parts.{listing}
+use Rattle.audit.specs.Lent.{listing_of}
 use Rattle.audit.proofs.Iterated.{count_tested}
 use Rattle.audit.proofs.RestingSums.{held_same, orders_summable}
-use Rattle.audit.proofs.Rooms.{buys_room, contract_in, few_buys, few_sells, sells_room}
+use Rattle.audit.proofs.Rooms.{contract_in, few_buys, few_sells}
 use Rattle.audit.proofs.accounts.held_in_range.Goals as goal
-
-pub new-bids-requires : goal.new-bids-requires
-new-bids-requires c = buys_room c.requires.0 c.requires.1
-
-pub new-offers-requires : goal.new-offers-requires
-new-offers-requires c = sells_room c.requires.0 c.requires.1
 
 pub resting_lots-bought-requires : goal.resting_lots-bought-requires
 unfolding listing_in
 resting_lots-bought-requires c =
-    rw c.new-bids.ensures (
-      rw length_queue (few_buys c.requires.0 c.requires.1),
-      orders_summable _ _ _ (listing c.args.state c.args.buys.now c.args.sells.now c.args.c) (counts_ok _ c.requires.0.counts).accounts_high c.requires.2 false,
+    rw c.bids.ensures (
+      rw length_queue (few_buys c.args.queues.now.ready c.requires.0),
+      orders_summable _ _ _ (listing_of c.args.queues.now c.args.c) (counts_ok _ c.args.queues.now.ready.counts).accounts_high c.requires.1 false,
     )
 
 pub resting_lots-sold-requires : goal.resting_lots-sold-requires
 unfolding listing_in
 resting_lots-sold-requires c =
-    rw c.new-offers.ensures (
-      rw length_queue (few_sells c.requires.0 c.requires.1),
-      orders_summable _ _ _ (listing c.args.state c.args.buys.now c.args.sells.now c.args.c) (counts_ok _ c.requires.0.counts).accounts_high c.requires.2 true,
+    rw c.offers.ensures (
+      rw length_queue (few_sells c.args.queues.now.ready c.requires.0),
+      orders_summable _ _ _ (listing_of c.args.queues.now c.args.c) (counts_ok _ c.args.queues.now.ready.counts).accounts_high c.requires.1 true,
     )
 
 pub all-requires-clause-callable : goal.all-requires-clause-callable
 all-requires-clause-callable c =
-    let place : c.args.c < 4 = contract_in c.requires.0 c.requires.1 in
+    let place : c.args.c < 4 = contract_in c.args.queues.now.ready c.requires.0 in
     serves_from_Range (λ x q k. search rules)
-    (λ a low high. let few : a < 32 = omega (arith, (counts_ok _ c.requires.0.counts).accounts_high) in search rules)
+    (λ a low high. let few : a < 32 = omega (arith, (counts_ok _ c.args.queues.now.ready.counts).accounts_high) in search rules)
 
 pub returns : goal.returns
 unfolding listing_in holding_at account_at
 returns c =
     count_tested _ _ c.all.ensures.ran (λ x b q k. search (rules, tests))
-    ∙ all_ext _ _ _ (λ a h. held_same (listing c.args.state c.args.buys.now c.args.sells.now c.args.c) _ _ (rw c.new-bids.ensures at c.resting_lots-bought.ensures)
-    (rw c.new-offers.ensures at c.resting_lots-sold.ensures) (omega (arith, (counts_ok _ c.requires.0.counts).accounts_high)))
+    ∙ all_ext _ _ _ (λ a h. held_same (listing_of c.args.queues.now c.args.c) _ _ (rw c.bids.ensures at c.resting_lots-bought.ensures)
+    (rw c.offers.ensures at c.resting_lots-sold.ensures) (omega (arith, (counts_ok _ c.args.queues.now.ready.counts).accounts_high)))

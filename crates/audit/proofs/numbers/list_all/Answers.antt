@@ -8,7 +8,7 @@ use Rattle.theory.proofs.Codecs.{length_queue}
 use Rattle.invariants.proofs.MemoryRoom.{counts_ok}
 use Rattle.audit.specs.Parts.{QueuesReady, max_listed}
 use Rattle.audit.proofs.FieldLists.{listed_more, listed_none}
-use Rattle.audit.proofs.Rooms.{buys_room, contract_in, few_buys, few_sells, sells_room}
+use Rattle.audit.proofs.Rooms.{contract_in, few_buys, few_sells}
 use Rattle.audit.proofs.numbers.list_all.Goals as goal
 
 -- how many orders a queue has
@@ -27,53 +27,49 @@ part a n l e h = mid_len a (a + n) l (omega arith) ∙ omega arith
 pub loop-c-init : goal.loop-c-init
 loop-c-init c = (search rules, omega arith, listed_none (word_of c.args.word) _)
 
-pub bounds-state-c : goal.bounds-state-c
-bounds-state-c c = contract_in c.requires.0 c.loop-c-test.true
-
-pub new-bids-requires : goal.new-bids-requires
-new-bids-requires c = buys_room c.requires.0 c.loop-c-test.true
-
-pub bounds-state-c-in-loop-c : goal.bounds-state-c-in-loop-c
-bounds-state-c-in-loop-c c = contract_in c.requires.0 c.loop-c-test.true
-
-pub new-offers-requires : goal.new-offers-requires
-new-offers-requires c = sells_room c.requires.0 c.loop-c-test.true
-
 pub overflow_add-middle : goal.overflow_add-middle
-overflow_add-middle c = omega (arith, room c.requires.0 c.loop-c-test.true c.loop-c.invariant.1 (counted _ _ _ c.len.ensures c.new-bids.ensures) refl)
+overflow_add-middle c = omega (arith, room c.args.queues.now.ready c.loop-c-test.true c.loop-c.invariant.1 (counted _ _ _ c.len.ensures c.bids-bids.ensures) refl)
 
 pub overflow_add-end : goal.overflow_add-end
 overflow_add-end c =
-    omega (arith, room c.requires.0 c.loop-c-test.true c.loop-c.invariant.1 (counted _ _ _ c.len.ensures c.new-bids.ensures) (counted _ _ _ c.len-in-loop-c.ensures c.new-offers.ensures))
+    omega (
+      arith,
+      room c.args.queues.now.ready c.loop-c-test.true c.loop-c.invariant.1
+          (counted _ _ _ c.len.ensures c.bids-bids.ensures) (counted _ _ _ c.len-in-loop-c.ensures c.offers-offers.ensures),
+    )
 
 pub slice_bounds-list_queue-end : goal.slice_bounds-list_queue-end
 slice_bounds-list_queue-end c =
-    let r = room c.requires.0 c.loop-c-test.true c.loop-c.invariant.1 (counted _ _ _ c.len.ensures c.new-bids.ensures) (counted _ _ _ c.len-in-loop-c.ensures c.new-offers.ensures) in search rules
+    let r = room c.args.queues.now.ready c.loop-c-test.true c.loop-c.invariant.1
+    (counted _ _ _ c.len.ensures c.bids-bids.ensures) (counted _ _ _ c.len-in-loop-c.ensures c.offers-offers.ensures) in
+    search rules
 
 pub slice_bounds-list_queue-end-in-loop-c : goal.slice_bounds-list_queue-end-in-loop-c
 slice_bounds-list_queue-end-in-loop-c c =
-    let r = room c.requires.0 c.loop-c-test.true c.loop-c.invariant.1 (counted _ _ _ c.len.ensures c.new-bids.ensures) (counted _ _ _ c.len-in-loop-c.ensures c.new-offers.ensures) in search rules
+    let r = room c.args.queues.now.ready c.loop-c-test.true c.loop-c.invariant.1
+    (counted _ _ _ c.len.ensures c.bids-bids.ensures) (counted _ _ _ c.len-in-loop-c.ensures c.offers-offers.ensures) in
+    search rules
 
 pub loop-c-preserved : goal.loop-c-preserved
 unfolding listing_in
 loop-c-preserved c =
-    let bought = counted _ _ _ c.len.ensures c.new-bids.ensures in
-    let sold = counted _ _ _ c.len-in-loop-c.ensures c.new-offers.ensures in
-    let r = room c.requires.0 c.loop-c-test.true c.loop-c.invariant.1 bought sold in
+    let bought = counted _ _ _ c.len.ensures c.bids-bids.ensures in
+    let sold = counted _ _ _ c.len-in-loop-c.ensures c.offers-offers.ensures in
+    let r = room c.args.queues.now.ready c.loop-c-test.true c.loop-c.invariant.1 bought sold in
     let l = same_len_mid c.loop-c.count _ c.loop-c.list _ c.list_queue.auto.values in
     let m = same_len_mid (c.loop-c.count + c.len.result) _ _ _ c.list_queue-in-loop-c.auto.values in
     let p = part c.loop-c.count c.len.result _ c.loop-c.invariant.0 (omega arith) in
     let q = part (c.loop-c.count + c.len.result) c.len-in-loop-c.result _ (l ∙ c.loop-c.invariant.0) (omega arith) in (
       m ∙ l ∙ c.loop-c.invariant.0,
-      omega (arith, bought, sold, few_buys c.requires.0 c.loop-c-test.true, few_sells c.requires.0 c.loop-c-test.true),
+      omega (arith, bought, sold, few_buys c.args.queues.now.ready c.loop-c-test.true, few_sells c.args.queues.now.ready c.loop-c-test.true),
       listed_more (word_of c.args.word) _ c.loop-c.c c.loop-c.list _ _ c.loop-c.count _ _ _ _ c.loop-c.invariant.2
           (omega (arith, c.list_queue.auto.values, p))
           (omega (arith, c.list_queue-in-loop-c.auto.values, q)) (omega arith)
-          (rw c.new-bids.ensures at c.list_queue.ensures)
-          (rw c.new-offers.ensures at c.list_queue-in-loop-c.ensures),
+          (rw c.bids-bids.ensures at c.list_queue.ensures)
+          (rw c.offers-offers.ensures at c.list_queue-in-loop-c.ensures),
     )
 
 pub returns : goal.returns
 returns c =
-    let all : c.loop-c.c ≡ c.args.state.contractcount = omega arith in
-    (omega (arith, (counts_ok _ c.requires.0.counts).contracts_high), rw all at c.loop-c.invariant.2)
+    let all : c.loop-c.c ≡ c.args.queues.now.state.now.contractcount = omega arith in
+    (omega (arith, (counts_ok _ c.args.queues.now.ready.counts).contracts_high), rw all at c.loop-c.invariant.2)

@@ -5,14 +5,7 @@ use Rattle.rules.specs.Memory.{listing_in}
 use Rattle.rules.specs.WellFormed.{contract_in_range}
 use Rattle.theory.proofs.Terms.{terms_passed}
 use Rattle.audit.proofs.Clauses.{listing_tests}
-use Rattle.audit.proofs.Rooms.{buys_room, sells_room}
 use Rattle.audit.proofs.queues.listing_in_range.Goals as goal
-
-pub new-bids-requires : goal.new-bids-requires
-new-bids-requires c = buys_room c.requires.0 c.requires.1
-
-pub new-offers-requires : goal.new-offers-requires
-new-offers-requires c = sells_room c.requires.0 c.requires.1
 
 pub orders_in_range-requires : goal.orders_in_range-requires
 orders_in_range-requires c =

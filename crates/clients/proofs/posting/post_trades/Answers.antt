@@ -1,7 +1,6 @@
 -- A trade that is not posted ends it; any other is written.
 use Rattle.std.proofs.Common.{ap, sym, ◌∙◌}
 use Rattle.std.specs.Prelude.{not}
-use native.Mathlib.Omega.{arith}
 use Rattle.laws.specs.Tests.{passed, refused}
 use Rattle.clients.proofs.PostedTrades.{going_first, going_more, not_posted, trade_posted_lem, all_posted}
 use Rattle.clients.proofs.posting.post_trades.Goals as goal

@@ -3,4 +3,4 @@ use Rattle.dayprofit.proofs.Passes.{Passing, Taken}
 use Rattle.dayprofit.proofs.sums.take_first.Given as goal
 
 abbrev pub invariant-loop-i : goal.invariant-loop-i
-invariant-loop-i l = Passing (Taken l.initial.left) l.area l.count l.left l.used l.i
+invariant-loop-i l = Passing (Taken l.initial.left) l.day l.left l.used l.i

@@ -1,14 +1,29 @@
 -- The day's sums, and what each account is paid from them.
-use native.Mathlib.Omega.{arith}
+use Rattle.std.proofs.Common.{refl}
+use Rattle.dayprofit.proofs.Trading.{placed_day}
 use Rattle.settlement.proofs.Carrying.{balance_at, paying_none, closing_reach, holding_reach, paying_more, paying_done}
 use Rattle.settlement.proofs.Totals.{day_summed}
 use Rattle.settlement.proofs.balances.all_paid.Goals as goal
+
+pub add_up-requires : goal.add_up-requires
+add_up-requires c = rw c.new-day.ensures (placed_day c.requires.placed, refl, refl)
+
+pub add_up-requires-2 : goal.add_up-requires-2
+add_up-requires-2 c = rw c.new-day.ensures (placed_day c.requires.placed, refl, refl)
+
+pub take_first-requires : goal.take_first-requires
+take_first-requires c = rw c.new-day.ensures (placed_day c.requires.placed, c.put_all_due.auto.left, refl)
 
 -- the sums are the day's, in rooms of one word for each slot
 pub loop-a-init : goal.loop-a-init
 loop-a-init c = (
   day_summed c.requires
-      (record { closing = c.add_up.ensures; opening = c.add_up-2.ensures; due = c.put_all_due.ensures; taken = c.take_first.ensures.0 })
+      (record {
+        closing = rw c.new-day.ensures at c.add_up.ensures;
+        opening = rw c.new-day.ensures at c.add_up-2.ensures;
+        due = c.put_all_due.ensures;
+        taken = rw c.new-day.ensures at c.take_first.ensures.0;
+      })
       (record {
         closed_room = c.add_up.auto.lots;
         closes_room = c.add_up.auto.value;

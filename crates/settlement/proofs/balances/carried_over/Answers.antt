@@ -1,5 +1,4 @@
 -- The array has its places, and one more is carried over.
-use native.Mathlib.Omega.{arith}
 use Rattle.std.proofs.Common.{rules, ◌≤◌, length}
 use Rattle.laws.specs.Lists.{unmapped}
 use Rattle.settlement.proofs.Carrying.{carrying_none, carrying_more, carrying_done}

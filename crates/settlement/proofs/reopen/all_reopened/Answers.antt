@@ -1,5 +1,4 @@
 -- The array has its places, and one more contract is reopened.
-use native.Mathlib.Omega.{arith}
 use Rattle.std.proofs.Common.{rules, ◌≤◌, ◌∙◌, sym, length}
 use Rattle.laws.specs.Lists.{unmapped}
 use Rattle.laws.specs.Written.{writing_none, writing_more, writing_done}
