@@ -96,7 +96,7 @@ fn head_whole(file: &[u8]) -> bool
 }
 
 #[tactic(auto, using(crate::proofs::Places::head_is, crate::proofs::Places::head, crate::proofs::Places::account_place_lem, crate::proofs::Places::contract_place_lem))]
-fn head_sound(file: &[u8]) -> bool
+pub fn head_sound(file: &[u8]) -> bool
     ensures { result ≡ head_sound file.now }
 {
     if !head_whole(file) {

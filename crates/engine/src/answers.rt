@@ -1,7 +1,7 @@
 // Answers, and the tests that several kinds share.
 ghost use Rattle.std.specs.Prelude.{◌≡◌, ◌<◌, ◌≤◌};
 ghost use Rattle.rules.specs.Bounds.{max_accounts, max_contracts};
-ghost use Rattle.rules.specs.Codes.{code_in, code_number};
+ghost use Rattle.rules.specs.Codes.{code_in};
 ghost use Rattle.rules.specs.Exchange.{is_absent};
 ghost use Rattle.engine.specs.Decision.{outcome_of};
 ghost use Rattle.engine.specs.Outcome.{AbsentIs, refused_with, accepted_with};
@@ -19,12 +19,12 @@ pub struct Outcome {
 }
 
 // "a refusal gives three zeros and changes nothing"
-pub fn refused(state: State, code: Code) -> Outcome
-    ensures { result ≡ refused_with state (code_number code) }
+pub fn refused(state: State, code: u32) -> Outcome
+    ensures { result ≡ refused_with state code }
 {
     Outcome {
         answer: Answer {
-            code: code.number(),
+            code,
             number: 0,
             traded: 0,
             lots: 0,

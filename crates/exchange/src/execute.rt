@@ -25,7 +25,7 @@ pub fn respond(
     ensures { ExecutedIs (memory state buys.old sells.old trades.old) command result buys.new sells.new trades.new }
 {
     if !formed {
-        return settling::plain(answers::refused(state, Code::StateNotWellFormed));
+        return settling::plain(answers::refused(state, Code::StateNotWellFormed.number()));
     }
     step::step(state, buys, sells, trades, command)
 }

@@ -84,7 +84,7 @@ pub fn settle(state: &State, buys: &mut [u32], sells: &mut [u32], trades: &mut [
         trades: &trades[..],
     };
     if let Err(code) = code(&market) {
-        return plain(answers::refused(*state, code));
+        return plain(answers::refused(*state, code.number()));
     }
     let s = settlement::settle::settle(*state, buys, sells, trades);
     let prices = s.prices;

@@ -151,7 +151,7 @@ pub fn step(
     let who = next.accounts[a];
     let decision = match decide(&next, who, buys, sells, &trades[..], command) {
         Ok(decision) => decision,
-        Err(code) => return settling::plain(answers::refused(next, code)),
+        Err(code) => return settling::plain(answers::refused(next, code.number())),
     };
     let mut answer = decision.answer;
     match decision.update {

@@ -63,7 +63,7 @@ fn put_list(file: &[u8], first: usize, n: usize, dropped: usize, list: &mut [u8]
     if rest % rules::COMMAND_WIDTH == 0 {
         return;
     }
-    put_entry(list, end, n, Reason::Partial);
+    put_entry(list, end, n, Reason::Partial.number());
 }
 
 // Nothing is written.

@@ -4,7 +4,7 @@ ghost use Rattle.std.specs.Prelude.{◌≡◌, ◌+◌, ◌-◌, ◌*◌, ◌^�
 ghost use Rattle.rules.specs.DayFile.{command_width};
 ghost use Rattle.endian.specs.Written.{Written};
 ghost use Rattle.mending.specs.Mend.{reason as Mend·reason, kept as Mend·kept, kept_bytes, dropped, entry, entry_width};
-ghost use Rattle.mending.specs.Reasons.{reason_number, reason_in};
+ghost use Rattle.mending.specs.Reasons.{reason_in};
 
 use super::reasons::Reason;
 use commands::{command_of, is_malformed};
@@ -60,12 +60,12 @@ pub fn put_kept(file: &[u8], first: usize, n: usize, out: &mut [u8], at: usize) 
 }
 
 // The list's entry for record k, counted from 0; in the list it is counted from 1.
-pub fn put_entry(list: &mut [u8], at: usize, k: usize, why: Reason) -> usize
+pub fn put_entry(list: &mut [u8], at: usize, k: usize, why: u8) -> usize
     requires { (at + entry_width ≤ length list.old) × (k + 1 < 2 ^ 64) }
-    ensures { Written entry_width list.old at (entry k (reason_number why)) list.new result }
+    ensures { Written entry_width list.old at (entry k why) list.new result }
 {
     let next = put_u64(list, at, k as u64 + 1);
-    put_byte(list, next, why.number())
+    put_byte(list, next, why)
 }
 
 // The entries of the dropped ones of the first n records.
@@ -79,7 +79,7 @@ pub fn put_dropped(file: &[u8], first: usize, n: usize, list: &mut [u8], at: usi
     for k in 0..n {
         match reason(file, first, k, kept) {
             None => kept += 1,
-            Some(why) => next = put_entry(list, next, k, why),
+            Some(why) => next = put_entry(list, next, k, why.number()),
         }
     }
     next

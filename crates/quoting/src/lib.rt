@@ -152,7 +152,7 @@ pub fn trade(
     ensures { OutcomeIs (step_in (memory state.now buys.old sells.old trades.old) (asked q)) result buys.new sells.new trades.new }
 {
     if let Err(code) = early_code(state, q) {
-        return answers::refused(*state, code);
+        return answers::refused(*state, code.number());
     }
     let queue = rules::QUEUE_STRIDE * laws::place_of(q.contract);
     let recorded = first_made(state.tradecount);
@@ -168,7 +168,7 @@ pub fn trade(
             put_back(buys, queue, &bids[..]);
             put_back(sells, queue, &offers[..]);
             put_back(trades, recorded, &made[..]);
-            answers::refused(*state, code)
+            answers::refused(*state, code.number())
         }
     }
 }

@@ -13,7 +13,7 @@ pub returns-in-Err : goal.returns-in-Err
 returns-in-Err c =
     let q = c.args.q in
     early_refused c.requires q.account q.contract q.lots q.buy q.sell
-    (c.in-Err.ensures c.requires.declared _ _ _) (not_accepted _) c.refused.ensures
+    (c.in-Err.ensures c.requires.declared _ _ _) (not_accepted _) (rw c.number.ensures at c.refused.ensures)
 
 pub place_of-queue-requires : goal.place_of-queue-requires
 place_of-queue-requires c =

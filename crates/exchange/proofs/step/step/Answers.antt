@@ -10,7 +10,7 @@ pub bounds-next-a : goal.bounds-next-a
 bounds-next-a c = place_fits c.requires (account_number c.args.command) c.account_place-a.ensures
 
 pub returns-in-Err : goal.returns-in-Err
-returns-in-Err c = nothing_responded c.in-Err.ensures refl c.refused.ensures c.plain.ensures
+returns-in-Err c = nothing_responded c.in-Err.ensures refl (rw c.number.ensures at c.refused.ensures) c.plain.ensures
 
 pub returns : goal.returns
 returns c =

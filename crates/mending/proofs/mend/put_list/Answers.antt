@@ -21,4 +21,4 @@ put_entry-requires c =
 
 pub returns : goal.returns
 returns c =
-    list_partial (told c.requires.first_in_bounds) c.put_u64-count.ensures c.put_dropped-end.ensures c.if-rest-eq0.false c.put_entry.ensures
+    list_partial (told c.requires.first_in_bounds) c.put_u64-count.ensures c.put_dropped-end.ensures c.if-rest-eq0.false (rw c.number.ensures at c.put_entry.ensures)

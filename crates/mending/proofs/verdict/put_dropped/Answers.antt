@@ -25,6 +25,6 @@ loop-k-preserved c = let i = c.loop-k.invariant in elim c.match-reason.branch [
       let some = some_number w.in-Some.why in
       record {
         counted = rw w.kept-is (count_drops _ _ _ _ _ i.counted w.in-Some.ensures some);
-        written = rw (w.list-is, w.next-is) (list_drops _ _ _ _ _ i.counted w.in-Some.ensures some i.written w.put_entry-next.ensures);
+        written = rw (w.list-is, w.next-is) (list_drops _ _ _ _ _ i.counted w.in-Some.ensures some i.written (rw w.number.ensures at w.put_entry-next.ensures));
       }
 ]

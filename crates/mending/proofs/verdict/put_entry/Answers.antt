@@ -3,4 +3,4 @@ use Rattle.endian.proofs.Writes.{then}
 use Rattle.mending.proofs.verdict.put_entry.Goals as goal
 
 pub returns : goal.returns
-returns c = then c.put_u64-next.ensures (rw c.number.ensures at c.put_byte.ensures)
+returns c = then c.put_u64-next.ensures c.put_byte.ensures
