@@ -1,10 +1,10 @@
 -- Volume and surplus at a price as the code finds them, and the search for the best among the resting prices. Assumes nothing.
 use Rattle.laws.specs.Logic.{Bool, true, false, List, [], ◌∷◌, ◌++◌, ◌≡◌, refl, sym, ap, ◌∙◌}
-use Rattle.laws.specs.Numbers.{ℕ, ◌+◌, ◌<◌, ◌≤◌, arith, length, get_or, drop}
+use Rattle.laws.specs.Numbers.{ℕ, ◌+◌, ◌<◌, ◌≤◌, arith, length, get_or, drop, ◌-◌, min, eq-eqb, ne_eqb, ltb}
 use Rattle.std.specs.Option.{option_or}
 use Rattle.std.specs.Prelude.{None, Some, unwrap_or, option_map}
 use Rattle.laws.specs.Choice.{pick, pick_same}
-use Rattle.rules.specs.Auction.{best_from, best_of, better, chosen_price, lots_reaching, prices, reaches, resting_prices}
+use Rattle.rules.specs.Auction.{best_from, best_of, better, chosen_price, lots_reaching, prices, reaches, resting_prices, apart, surplus, volume, smaller}
 use Rattle.rules.specs.Exchange.{no_order}
 use Rattle.rules.specs.declared.Order.{Order}
 use Rattle.theory.proofs.AuctionTaken.{reaching_nil, reaching_met, reaching_unmet}
@@ -13,6 +13,8 @@ use Rattle.book.specs.Places.{front}
 use Rattle.book.proofs.ReadOrders.{rest_at, no_rest}
 use Rattle.auction.specs.Price.{best_level, chosen_level, first_price, head_price, level_at, preferred}
 use Rattle.auction.specs.declared.price.Level.{Level}
+use Rattle.rules.specs.Memory.{order_from, queue_in, first_word}
+use Rattle.book.proofs.Queues.{next_order, no_more}
 
 -- ---- the lots that reach a price
 
@@ -35,10 +37,60 @@ module _ (sell : Bool) (price : ℕ) (o : Order) where
         cases true e = omega (arith, reaching_met sell price o [] e, reaching_nil sell price)
         cases false e = omega (arith, reaching_unmet sell price o [] e, reaching_nil sell price)
 
--- ---- a level is that of its own price
+-- ---- volume and surplus: d lots of the buys and s of the sells reach the price
 
+module _ (buys sells : List Order) (price d s : ℕ) (ed : d ≡ lots_reaching false price buys) (es : s ≡ lots_reaching true price sells) where
+  level_is : level_at buys sells price ≡ record { price = price; volume = min d s; surplus = apart d s }
+  unfolding volume surplus
+  level_is = rw (ed, es)
+
+  pub level_short : d < s → record { price = price; volume = d; surplus = s - d } ≡ level_at buys sells price
+  level_short h =
+      let v : min d s ≡ d = omega arith in
+      let u : apart d s ≡ s - d = omega arith in
+      sym (level_is ∙ rw (v, u))
+
+  pub level_long : s ≤ d → record { price = price; volume = s; surplus = d - s } ≡ level_at buys sells price
+  level_long h =
+      let v : min d s ≡ s = omega arith in
+      let u : apart d s ≡ d - s = omega arith in
+      sym (level_is ∙ rw (v, u))
+
+-- a level is that of its own price
 pub level_own : (buys sells : List Order) (p : ℕ) {level : Level} → level ≡ level_at buys sells p → level ≡ level_at buys sells level.price
 level_own buys sells p e = e ∙ ap (level_at buys sells) (sym (ap (λ (l : Level). l.price) e))
+
+-- ---- the four steps, each where those before it do not decide
+
+step_decides : (a b : ℕ) (next : Bool) → (a ≡ b → ⊥) → smaller a b next ≡ ltb a b
+step_decides a b next d = rw (ne_eqb a b d)
+
+step_passes : (a b : ℕ) (next : Bool) → a ≡ b → smaller a b next ≡ next
+step_passes a b next e = rw (eq-eqb a b e)
+
+module _ (last : ℕ) (level other : Level) where
+  pub by_volume : (level.volume ≡ other.volume → ⊥) → ltb other.volume level.volume ≡ preferred last level other
+  unfolding preferred
+  by_volume d = sym (step_decides other.volume level.volume _ (λ e. d (sym e)))
+
+  module _ (ev : level.volume ≡ other.volume) where
+    past_volume : preferred last level other
+        ≡ smaller level.surplus other.surplus (smaller (apart level.price last) (apart other.price last) (ltb other.price level.price))
+    unfolding preferred
+    past_volume = step_passes other.volume level.volume _ (sym ev)
+
+    pub by_surplus : (level.surplus ≡ other.surplus → ⊥) → ltb level.surplus other.surplus ≡ preferred last level other
+    by_surplus d = sym (past_volume ∙ step_decides level.surplus other.surplus _ d)
+
+    module _ (es : level.surplus ≡ other.surplus) {near far : ℕ} (en : near ≡ apart level.price last) (ef : far ≡ apart other.price last) where
+      past_surplus : preferred last level other ≡ smaller near far (ltb other.price level.price)
+      past_surplus = past_volume ∙ step_passes level.surplus other.surplus _ es ∙ rw (en, ef)
+
+      pub by_distance : (near ≡ far → ⊥) → ltb near far ≡ preferred last level other
+      by_distance d = sym (past_surplus ∙ step_decides near far _ d)
+
+      pub by_price : near ≡ far → ltb other.price level.price ≡ preferred last level other
+      by_price e = sym (past_surplus ∙ step_passes near far _ e)
 
 -- ---- the search
 
@@ -82,6 +134,17 @@ module _ (buys sells : List Order) where
 
   pub first_none : option_or (front buys) (front sells) ≡ None → 0 ≡ first_price buys sells
   first_none e = rw e at (front_price buys sells)
+
+-- as it stands in an area
+module _ (buys : List ℕ) (bought : ℕ) (sells : List ℕ) (sold c : ℕ) where
+  pub first_buy : {o : Order} → (bought ≡ 0 → ⊥) → o ≡ order_from (drop (first_word c 0) buys) → o.price ≡ first_price (queue_in buys c bought) (queue_in sells c sold)
+  unfolding head_price prices
+  first_buy {o} some e = rw (next_order buys c bought 0 o (omega arith) e)
+
+  module _ (none : bought ≡ 0) where
+    pub first_sell : {o : Order} → (sold ≡ 0 → ⊥) → o ≡ order_from (drop (first_word c 0) sells) → o.price ≡ first_price (queue_in buys c bought) (queue_in sells c sold)
+    unfolding head_price prices
+    first_sell {o} some e = rw (no_more buys c bought 0 (omega arith), next_order sells c sold 0 o (omega arith) e)
 
 -- ---- the loop over one queue's prices: the best so far, with those from place i on, gives the answer
 

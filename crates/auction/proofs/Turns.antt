@@ -44,6 +44,10 @@ pub record Meeting (buys : List ℕ) (bought : ℕ) (sells : List ℕ) (sold c p
   pub sell : s ≡ order_from (drop (first_word c j) sells)
   pub met : (reaches false price b && reaches true price s) ≡ true
 
+-- the trade, in the terms of the contract's place
+pub trade_here : {c contract : ℕ} (price : ℕ) (b s : Order) {tr : Trade} → c ≡ contract → tr ≡ trade_at contract price (paired b s) b s → tr ≡ trade_at c price (paired b s) b s
+trade_here price b s ec e = rw ec e
+
 -- an order fits with fewer lots too
 fits_fewer : (used : ℕ) → KeptWithFewer (fits used)
 fits_fewer used o n some fewer h =

@@ -3,7 +3,7 @@ use borrow.Rule.Slice.PartMut.{post_of, put_mid}
 use Rattle.std.proofs.lemmas.Grind.{same_number_lists}
 use Rattle.std.proofs.lemmas.Slice.{take-put_mid}
 use Rattle.laws.specs.Logic.{true, false, not, List, [], ◌∷◌, ◌++◌, append-nil, append_assoc, ◌≡◌, refl, sym, ap, ◌∙◌}
-use Rattle.laws.specs.Numbers.{ℕ, zero, suc, ◌+◌, ◌<◌, ◌≤◌, le_of_suc-le-suc, add-one, arith, eqb, length, get_or, take}
+use Rattle.laws.specs.Numbers.{ℕ, zero, suc, ◌+◌, ◌<◌, ◌≤◌, le_of_suc-le-suc, add-one, arith, eqb, length, get_or, take, eq-eqb, ne_eqb}
 use Rattle.laws.specs.Numbers.{length-append, length-take-le}
 use Rattle.laws.specs.Choice.{all_of}
 use Rattle.laws.specs.Tabulate.{tabulate, tabulate_last}
@@ -73,3 +73,10 @@ once_off n ns h = rw h
 pub once_none : used_once [] ≡ true
 unfolding used_once
 once_none = refl
+
+-- the test of one number against another, as code makes it
+pub same_number : {a b : ℕ} → a ≡ b → not (eqb b a) ≡ false
+same_number {a} {b} e = ap not (eq-eqb b a (sym e))
+
+pub other_number : {a b : ℕ} → (a ≡ b → ⊥) → not (eqb b a) ≡ true
+other_number {a} {b} n = ap not (ne_eqb b a (λ e. n (sym e)))

@@ -2,6 +2,7 @@
 pub mod Clauses
 pub mod FieldLists
 pub mod Iterated
+pub mod Limits
 pub mod MarkedOrders
 pub mod Remainders
 pub mod Replaying

@@ -31,6 +31,10 @@ answer_codec = record { wide = λ a. refl; back = λ a ys. refl; forth = λ xs h
 pub stored_answer : (area : List ℕ) (at : ℕ) (a : Answer) → over area at (answer_words a) ≡ store answer_words area at (a ∷ [])
 stored_answer area at a = sym (store_over answer_codec area at (a ∷ []) ∙ ap (over area at) (encode_one answer_codec a))
 
+-- an answer that is another
+pub put_as : (area : List ℕ) (at : ℕ) {a b : Answer} {after : List ℕ} → a ≡ b → after ≡ store answer_words area at (a ∷ []) → after ≡ store answer_words area at (b ∷ [])
+put_as area at e put = put ∙ ap (λ (v : Answer). store answer_words area at (v ∷ [])) e
+
 length_answers : (m : Memory) (cs : List Command) → length (answers_to m cs) ≡ length cs
 unfolding answers_to
 length_answers m [] = refl

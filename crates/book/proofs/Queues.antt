@@ -46,6 +46,11 @@ module _ (area : List ℕ) (c n i : ℕ) where
   pub no_more : n ≤ i → drop i (queue_in area c n) ≡ []
   no_more h = drop_of_length-le (queue_in area c n) {i = i} (rw (length_queue area c n) h)
 
+-- ---- a loop that counts over a queue: those from there on count nothing
+
+pub tally_none : (done rest answer : ℕ) → done + rest ≡ answer → rest ≡ 0 → done ≡ answer
+tally_none done rest answer so_far k = omega arith
+
 -- ---- the queue written
 
 -- a queue that leaves none of its places free

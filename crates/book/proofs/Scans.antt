@@ -1,16 +1,24 @@
 -- What one order adds to the numbers that are read of a queue, in the terms of the code that reads it: the number of trades, an
 -- account's resting lots. Assumes nothing.
-use Rattle.laws.specs.Logic.{true, ◌&&◌, List, [], ◌∷◌, ◌≡◌, sym, ap, ◌∙◌}
-use Rattle.laws.specs.Numbers.{ℕ, ◌+◌, ◌-◌, min, arith, eq-eqb, ne_eqb, eqb}
-use Rattle.laws.specs.Choice.{true_both, false_both, both_false}
+use Rattle.laws.specs.Logic.{true, ◌&&◌, List, [], ◌∷◌, ◌≡◌, sym, ap, ◌∙◌, Bool, false, not}
+use Rattle.laws.specs.Numbers.{ℕ, ◌+◌, ◌-◌, min, arith, eq-eqb, ne_eqb, eqb, not-true, not-false, ◌≤◌}
+use Rattle.laws.specs.Choice.{true_both, false_both, both_false, pick}
 use Rattle.book.specs.EarlyStop.{count_trades}
-use Rattle.rules.specs.Exchange.{resting}
+use Rattle.rules.specs.Exchange.{resting, lots_where}
 use Rattle.rules.specs.Matching.{counterpart}
 use Rattle.rules.specs.declared.{Order.Order, Taker.Taker}
 use Rattle.book.proofs.EarlyStop.{count_met}
 use Rattle.theory.proofs.Queue.{lots_nil, lots_met, lots_unmet, lots_append}
+use Rattle.laws.specs.Sums.{sum_of}
 
 -- ---- a counterpart
+
+-- what a negated test decides of the answer t that its value r stands for
+pub test_failed : (r t : Bool) → r ≡ t → not r ≡ true → t ≡ false
+test_failed r t e h = sym e ∙ not-true r h
+
+pub test_passed : (r t : Bool) → r ≡ t → not r ≡ false → t ≡ true
+test_passed r t e h = sym e ∙ not-false r h
 
 -- it adds one trade, of the smaller of the lots left and its own
 pub trades_on : (t : Taker) (left size : ℕ) (o : Order) → (left ≡ 0 → ⊥) → size ≡ min left o.lots → counterpart t o ≡ true → (os : List Order)
@@ -44,3 +52,12 @@ module _ (close account : ℕ) (o : Order) where
   pub resting_on : (a : ℕ) → a ≡ resting close account (o ∷ []) → (os : List Order) → resting close account (o ∷ os) ≡ a + resting close account os
   unfolding resting
   resting_on a e os = rw e (lots_append _ (o ∷ []) os)
+
+  module _ (a : ℕ) (e : a ≡ resting close account (o ∷ [])) where
+    pub resting_within : a ≤ o.lots
+    unfolding resting lots_where sum_of
+    resting_within = within (eqb o.account account && eqb o.close close) o.lots a e
+      where
+        within : (t : Bool) (x a : ℕ) → a ≡ pick t x 0 + 0 → a ≤ x
+        within true x a e = omega arith
+        within false x a e = omega arith

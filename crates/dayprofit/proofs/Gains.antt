@@ -1,9 +1,9 @@
 -- One account's profit in one contract from its sums of legs, side by side, with the bounds of those sums. Assumes nothing.
 use lib.IntN.{ℤ}
-use mir.Facts.{to_z-of_z}
+use mir.Facts.{to_z-of_z, Fits-below}
 use mir.Syntax.{w64}
-use mir.Val.{SFits, to_z, of_z}
-use Rattle.laws.specs.Logic.{Bool, true, false, not, List, ◌∷◌, ◌≡◌, refl, sym, ap, ◌∙◌}
+use mir.Val.{SFits, to_z, of_z, Fits}
+use Rattle.laws.specs.Logic.{Bool, true, false, not, List, ◌∷◌, ◌≡◌, refl, sym, ap, ◌∙◌, subst}
 use Rattle.laws.specs.Numbers.{ℕ, ◌+◌, ◌-◌, ◌*◌, ◌<◌, ◌≤◌, min, le_trans, mul-le-mul_left, mul-le-mul_right, arith, get_or}
 use Rattle.laws.specs.Bound.{within_diff}
 use Rattle.laws.specs.Sums.{sum_of}
@@ -21,6 +21,7 @@ use Rattle.dayprofit.proofs.FirstIn.{SideIs, day_sides, closing_by_sides, holdin
 use Rattle.dayprofit.proofs.Legs.{batches_lots, batches_cost}
 use Rattle.dayprofit.proofs.Passes.{lots_reach, value_reach}
 use Rattle.dayprofit.proofs.Trading.{sized_day}
+use Rattle.dayprofit.specs.declared.profit.Profit.{Profit}
 
 -- ---- a side's sums, by its legs: start-of-day lots go first
 
@@ -66,16 +67,55 @@ module _ (reference start : ℕ) (short : Bool) (ls : List Leg) (s : Sums) (q : 
   pub side_is : SideIs reference start short ls (side_from reference start s)
   side_is = record { closes = q.closes; closed = side_closed; lots = side_lots; opened = side_opened }
 
+-- ---- how far they reach
+
+priced_small : (p k : ℕ) → p ≤ 1_000_000 → k ≤ 100_000 → p * k ≤ 100_000_000_000
+priced_small p k h j = le_trans (mul-le-mul_right k h) (mul-le-mul_left 1_000_000 j)
+
+module _ (reference start : ℕ) (s : Sums) (g : SumsSmall reference start s) where
+  first_small : reference * min s.closed start ≤ reference * start
+  first_small = mul-le-mul_left reference (omega arith)
+
+  start_small : reference * start ≤ 100_000_000_000
+  start_small = priced_small reference start g.reference g.first
+
+  pub first_fits : (f : ℕ) → f ≡ min s.closed start → Fits w64 (reference * f)
+  first_fits f e = rw e (Fits-below {n = 100_000_000_000} tt (omega (arith, first_small, start_small)))
+
+  pub closed_fits : (f : ℕ) → f ≡ min s.closed start → Fits w64 (reference * f + s.used)
+  closed_fits f e = rw e (Fits-below {n = 1_124_000_000_000} tt (omega (arith, first_small, start_small, g.used, g.opens)))
+
+  pub start_fits : Fits w64 (reference * start)
+  start_fits = Fits-below {n = 100_000_000_000} tt start_small
+
+  pub opened_fits : Fits w64 (reference * start + s.opens)
+  opened_fits = Fits-below {n = 1_124_000_000_000} tt (omega (arith, start_small, g.opens))
+
+  pub closed_below : (f : ℕ) → f ≡ min s.closed start → reference * f + s.used ≤ reference * start + s.opens
+  closed_below f e = rw e (omega (arith, first_small, g.used))
+
+  pub side_small : SideSmall (side_from reference start s)
+  side_small =
+      record {
+        closes = omega (arith, g.closes);
+        closed = omega (arith, first_small, start_small, g.used, g.opens);
+        lots = omega (arith, g.first, g.opened);
+        opened = omega (arith, start_small, g.opens);
+      }
+
 -- ---- both sides at a price
 
 marked_small : (p k : ℕ) → p ≤ 1_000_000 → k ≤ 1_124_000 → p * k ≤ 1_124_000_000_000
 marked_small p k h j = le_trans (mul-le-mul_right k h) (mul-le-mul_left 1_000_000 j)
 
+pub marked_fits : (r : Side) → SideSmall r → (price : ℕ) → price ≤ 1_000_000 → Fits w64 (price * r.lots)
+marked_fits r g price h = Fits-below {n = 1_124_000_000_000} tt (marked_small price r.lots h g.lots)
+
 module _ (l s : Side) (p : SideSmall l) (q : SideSmall s) (price : ℕ) (h : price ≤ 1_000_000) where
-  gains_small : price * l.lots + s.opened ≤ 4_000_000_000_000
+  pub gains_small : price * l.lots + s.opened ≤ 4_000_000_000_000
   gains_small = omega (arith, marked_small price l.lots h p.lots, q.opened)
 
-  losses_small : l.opened + price * s.lots ≤ 4_000_000_000_000
+  pub losses_small : l.opened + price * s.lots ≤ 4_000_000_000_000
   losses_small = omega (arith, marked_small price s.lots h q.lots, p.opened)
 
   closes_small : l.closes + s.closed ≤ 4_000_000_000_000
@@ -83,6 +123,12 @@ module _ (l s : Side) (p : SideSmall l) (q : SideSmall s) (price : ℕ) (h : pri
 
   closed_small : l.closed + s.closes ≤ 4_000_000_000_000
   closed_small = omega (arith, p.closed, q.closes)
+
+  pub gains_fit : Fits w64 (price * l.lots + s.opened)
+  gains_fit = Fits-below {n = 4_000_000_000_000} tt gains_small
+
+  pub losses_fit : Fits w64 (l.opened + price * s.lots)
+  losses_fit = Fits-below {n = 4_000_000_000_000} tt losses_small
 
   pub profit_is : (x y : ℤ) → SFits w64 x → SFits w64 y → x ≡ closing_from l s → y ≡ holding_from price l s
       → ProfitFrom l s price (record { closing = to_z w64 (of_z w64 x); holding = to_z w64 (of_z w64 y) })
@@ -95,6 +141,22 @@ module _ (l s : Side) (p : SideSmall l) (q : SideSmall s) (price : ℕ) (h : pri
         closing_small = rw b (within_diff closes_small closed_small);
         holding_small = rw c (within_diff gains_small losses_small);
       }
+
+-- ---- from the slots: a side's sums s that stand there, and its day r
+
+module _ (reference start : ℕ) (s t : Sums) (e : s ≡ t) (g : SumsSmall reference start t) where
+  pub sums_small : SumsSmall reference start s
+  sums_small = subst (SumsSmall reference start) (sym e) g
+
+  module _ (r : Side) (f : r ≡ side_from reference start s) where
+    pub side_from_lem : r ≡ side_from reference start t
+    side_from_lem = f ∙ ap (side_from reference start) e
+
+    pub side_known : SideSmall r
+    side_known = subst SideSmall (sym side_from_lem) (side_small reference start t g)
+
+pub profit_from : (l l' s s' : Side) (price : ℕ) (r : Profit) → l ≡ l' → s ≡ s' → ProfitFrom l s price r → ProfitFrom l' s' price r
+profit_from l l' s s' price r e f w = subst (λ (x : Side). ProfitFrom x s' price r) e (subst (λ (x : Side). ProfitFrom l x price r) f w)
 
 -- ---- THE DAY'S PROFIT from the slots that the passes leave is Article 32's
 

@@ -1,7 +1,7 @@
 -- The legs of the day's trades by kind: their lots and value, one trade after the other, and how far those sums reach. Assumes
 -- nothing.
 use Rattle.laws.specs.Logic.{Bool, true, false, not, ◌&&◌, List, [], ◌∷◌, ◌++◌, append-nil, append_assoc, ◌≡◌, refl, sym, ap, ◌∙◌}
-use Rattle.laws.specs.Numbers.{ℕ, ◌+◌, ◌*◌, ◌≤◌, le_trans, mul-add, mul-le-mul_left, mul-le-mul_right, arith, eqb, length}
+use Rattle.laws.specs.Numbers.{ℕ, ◌+◌, ◌*◌, ◌≤◌, le_trans, mul-add, mul-le-mul_left, mul-le-mul_right, arith, eqb, length, get_or}
 use Rattle.laws.specs.Choice.{pick, pick_same}
 use Rattle.laws.specs.Sums.{sum_of, sum_of_append}
 use Rattle.rules.specs.Article32.{lots_in}
@@ -12,6 +12,10 @@ use Rattle.accounting.proofs.Trades.{legs_append}
 use Rattle.dayprofit.specs.Day.{Sized, AllSized}
 use Rattle.dayprofit.specs.Sides.{same, lots_if, value_if, batch_if, batches_of, cost}
 use Rattle.dayprofit.proofs.FirstIn.{lots_append, cost_append}
+use mir.Facts.{Fits-below}
+use mir.Syntax.{w32, w64}
+use mir.Val.{Fits}
+use Rattle.dayprofit.specs.Slots.{slot_lots_most, slot_value_most}
 
 -- ---- one leg: it counts where it is of the kind
 
@@ -23,6 +27,17 @@ kind_itself false false = refl
 kind_itself false true = refl
 kind_itself true false = refl
 kind_itself true true = refl
+
+pub says_open : (b : Bool) → b ≡ not (not b)
+says_open true = refl
+says_open false = refl
+
+-- what a test that was passed or failed says
+pub is_so : (r here : Bool) → r ≡ here → not r ≡ false → here ≡ true
+is_so r here e h = sym e ∙ says_open r ∙ ap not h
+
+pub is_not_so : (r here : Bool) → r ≡ here → not r ≡ true → here ≡ false
+is_not_so r here e h = sym e ∙ says_open r ∙ ap not h
 
 pick_times : (a : Bool) (p n : ℕ) → pick a (p * n) 0 ≡ p * pick a n 0
 pick_times true p n = refl
@@ -145,3 +160,15 @@ module _ (sell close : Bool) where
   unfolding batches_of sum_of
   batches_cost [] = no_cost
   batches_cost (l ∷ ls) = cost_append (batch_if sell close l) (batches_of sell close ls) ∙ rw (batch_cost l, batches_cost ls)
+
+-- ---- a leg's lots and value, added where one stands
+
+module _ (t : Trade) (z : Sized t) (n : ℕ) (h : n ≤ t.lots) where
+  pub leg_product_fits : Fits w64 (t.price * n)
+  leg_product_fits = Fits-below {n = max_price * max_lots} tt (value_small t z n h)
+
+  pub leg_value_fits : (vs : List ℕ) (r at : ℕ) → r ≡ at → get_or vs at 0 ≤ slot_value_most → Fits w64 (get_or vs r 0 + t.price * n)
+  leg_value_fits vs r at e small = rw e (Fits-below {n = slot_value_most + max_price * max_lots} tt (omega (arith, value_small t z n h)))
+
+pub leg_lots_fit : (t : Trade) → Sized t → (us : List ℕ) (r at : ℕ) → r ≡ at → get_or us at 0 ≤ slot_lots_most → Fits w32 (get_or us r 0 + t.lots)
+leg_lots_fit t z us r at e few = rw e (Fits-below {n = slot_lots_most + max_lots} tt (omega (arith, z.lots)))

@@ -1,7 +1,7 @@
 -- The price from quotes, and the whole settlement price, by the tests of the code. Assumes nothing.
 use Rattle.std.specs.Prelude.{None, Some}
 use Rattle.laws.specs.Logic.{List, [], ◌∷◌, ◌≡◌, refl, sym, ap₂, ◌∙◌}
-use Rattle.laws.specs.Numbers.{ℕ, ◌*◌, ◌/◌, ◌≤◌, arith}
+use Rattle.laws.specs.Numbers.{ℕ, ◌*◌, ◌/◌, ◌≤◌, arith, div-mul-le_self, div-le_of_le-mul}
 use Rattle.laws.specs.Sums.{sum_of}
 use Rattle.rules.specs.Exchange.{Listing}
 use Rattle.rules.specs.Matching.{middle, traded_lots}
@@ -12,6 +12,9 @@ use Rattle.book.specs.Places.{front}
 use Rattle.dayprofit.specs.Day.{AllSized, TurnoverIs, PriceIs}
 use Rattle.dayprofit.specs.declared.price.Turnover.{Turnover}
 use Rattle.dayprofit.proofs.Trading.{some_lots, value_small}
+use mir.Facts.{Fits-below}
+use mir.Syntax.{w32, w64}
+use mir.Val.{Fits}
 
 -- ---- quotes, by the best orders of the two queues
 
@@ -35,6 +38,23 @@ module _ (reference : ℕ) where
       let p : c ≡ b = cc in
       let q : d ≡ s = cc in
       g ∙ rw (p, q)
+
+-- the price of the quotes of an area, by the counts of its two queues
+module _ (reference : ℕ) (buys sells : List ℕ) (c : ℕ) where
+  abbrev pub Quoted : ℕ → ℕ → ℕ → Type 0
+  Quoted buycount sellcount r = r ≡ quoted_price reference (queue_in buys c buycount) (queue_in sells c sellcount)
+
+-- ---- the weighted price
+
+module _ (value lots tick : ℕ) (low : value ≤ 1_000_000 * lots) where
+  weighted_small : value / lots / tick * tick ≤ 1_000_000
+  weighted_small = omega (arith, div-mul-le_self (value / lots) tick, div-le_of_le-mul lots {m = value} {n = 1_000_000} (omega arith))
+
+  pub weighted_fits : Fits w64 (value / lots / tick * tick)
+  weighted_fits = Fits-below {n = 1_000_000} tt weighted_small
+
+  pub weighted_narrow : Fits w32 (value / lots / tick * tick)
+  weighted_narrow = Fits-below {n = 1_000_000} tt weighted_small
 
 -- ---- the settlement price, by the lots traded
 

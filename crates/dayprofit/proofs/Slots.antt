@@ -1,7 +1,7 @@
 -- Sums in slots, as the passes over the day's trades keep them: a leg changes its own slot alone, so what is known of every slot by the
 -- legs so far is known with one trade more. Assumes nothing.
 use Rattle.laws.specs.Logic.{Bool, true, false, ◌&&◌, List, [], ◌∷◌, ◌++◌, append-nil, append_assoc, ◌≡◌, refl, sym, ap, subst, ◌∙◌}
-use Rattle.laws.specs.Numbers.{ℕ, ◌+◌, ◌<◌, ◌≤◌, arith, eqb-true, eqb-false, eqb, leb, length, get_or, set, take, length-set, get_or-set_same}
+use Rattle.laws.specs.Numbers.{ℕ, ◌+◌, ◌<◌, ◌≤◌, arith, eqb-true, eqb-false, eqb, leb, length, get_or, set, take, length-set, get_or-set_same, ◌-◌, min}
 use Rattle.laws.specs.Numbers.{get_or-set_other}
 use Rattle.laws.specs.Choice.{pick, both_false}
 use Rattle.laws.specs.Sums.{sum_of}
@@ -208,3 +208,14 @@ trade_more {Told} ts i t us vs h e w =
 pub no_legs : (ts : List Trade) (a c : ℕ) → legs_to ts 0 a c ≡ []
 unfolding legs
 no_legs ts a c = refl
+
+-- ---- as the code finds a leg's slot, and the lots that closes took beyond the start-of-day ones
+
+pub party_small : (sell : Bool) (t : Trade) → Placed t → (p a : ℕ) → p ≡ party_of sell t → a ≡ p → a < max_accounts
+party_small sell t h p a e f = rw (f, e) (party_known sell t h)
+
+pub due_is : (left lots : List ℕ) (o o' k k' m start : ℕ) → o ≡ o' → k ≡ k' → m ≡ min (get_or lots k 0) start
+    → set left o (get_or lots k 0 - m) ≡ set left o' (get_or lots k' 0 - start)
+due_is left lots o o' k k' m start e f g =
+    let d : get_or lots k 0 - m ≡ get_or lots k' 0 - start = rw (← f) (omega arith) in
+    rw (e, d)

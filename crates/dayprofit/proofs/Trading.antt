@@ -4,7 +4,7 @@ use mir.Facts.{Fits-below}
 use mir.Syntax.{w64}
 use mir.Val.{Fits}
 use Rattle.laws.specs.Logic.{Bool, true, false, List, [], ◌∷◌, ◌++◌, ◌≡◌, refl, ap, ◌∙◌}
-use Rattle.laws.specs.Numbers.{ℕ, suc, ◌+◌, ◌*◌, ◌<◌, ◌≤◌, add-one, mul-le-mul_right, arith, eq-eqb, ne_eqb, eqb, length, length-take, get_or, take, drop}
+use Rattle.laws.specs.Numbers.{ℕ, suc, ◌+◌, ◌*◌, ◌<◌, ◌≤◌, add-one, mul-le-mul_right, arith, eq-eqb, ne_eqb, eqb, length, length-take, get_or, take, drop, le_trans, mul-le-mul_left}
 use Rattle.laws.specs.Numbers.{take-append-drop, take-suc, take_all}
 use Rattle.laws.specs.Choice.{pick}
 use Rattle.laws.specs.Sums.{sum_of, sum_of_append}
@@ -110,6 +110,9 @@ module _ (c : ℕ) (t : Trade) where
   pub part_all : t.contract ≡ c → TurnoverIs (trades_in c (t ∷ [])) (record { value = t.price * t.lots; lots = t.lots })
   unfolding trades_in traded_value traded_lots sum_of
   part_all here = record { value = rw (eq-eqb t.contract c here) (omega arith); lots = rw (eq-eqb t.contract c here) (omega arith) }
+
+  pub part_fits : Sized t → Fits w64 (t.price * t.lots)
+  part_fits s = Fits-below {n = 1_000_000_000} tt (le_trans (mul-le-mul_right t.lots s.price) (mul-le-mul_left 1_000_000 s.lots))
 
 -- ---- the loop over the day's trades: value and lots of the first i, as far as they are the contract's
 

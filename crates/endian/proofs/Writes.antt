@@ -1,6 +1,6 @@
 -- Writing one thing after the other: numbers, and parts of a file. Assumes nothing.
 use Rattle.laws.specs.Logic.{List, [], ◌∷◌, ◌++◌, ◌≡◌, refl, sym, ap, ◌∙◌}
-use Rattle.laws.specs.Numbers.{ℕ, ◌+◌, ◌-◌, ◌/◌, ◌%◌, ◌<◌, ◌≤◌, le_refl, arith, length, set, take, drop, length-append, length-drop, length-take-le}
+use Rattle.laws.specs.Numbers.{ℕ, ◌+◌, ◌-◌, ◌/◌, ◌%◌, ◌<◌, ◌≤◌, le_refl, arith, length, set, take, drop, length-append, length-drop, length-take-le, add-one, get_or, take-suc, get_or-drop}
 use Rattle.areas.specs.Lists.{over}
 use Rattle.areas.proofs.Moves.{lent_over}
 use borrow.Rule.Slice.PartMut.{put_mid}
@@ -56,6 +56,21 @@ module _ {before after bytes : List ℕ} {most at next : ℕ} (w : Written most 
 
 -- ---- numbers
 
+module _ {before middle after : List ℕ} {at j next : ℕ} (n : ℕ) where
+  pub two_bytes : Written 1 before at (n % 256 ∷ []) middle j → Written 1 middle j (n / 256 ∷ []) after next → Written 2 before at (two n) after next
+  unfolding two
+  two_bytes w v = then w v
+
+  pub four_bytes : Written 2 before at (two (n % 65_536)) middle j → Written 2 middle j (two (n / 65_536)) after next
+      → Written 4 before at (four n) after next
+  unfolding four
+  four_bytes w v = then w v
+
+  pub eight_bytes : Written 4 before at (four (n % 4_294_967_296)) middle j
+      → Written 4 middle j (four (n / 4_294_967_296)) after next → Written 8 before at (eight n) after next
+  unfolding eight
+  eight_bytes w v = then w v
+
 -- the library's bytes of a number are ours
 pub two_is : (n : ℕ) → n < 65_536 → to_le_bytes w16 n ≡ two n
 unfolding two
@@ -100,3 +115,13 @@ length_eight n = refl
 module _ (file : List ℕ) (from : ℕ) where
   pub length_part : (n : ℕ) → from + n ≤ length file → length (take n (drop from file)) ≡ n
   length_part n h = length-take-le n (drop from file) (omega (arith, length-drop from file))
+
+  part_more : (i : ℕ) → from + i < length file → take (i + 1) (drop from file) ≡ take i (drop from file) ++ (get_or file (from + i) 0 ∷ [])
+  part_more i h =
+      ap (λ (k : ℕ). take k (drop from file)) (add-one i) ∙ take-suc (drop from file) i 0 (omega (arith, length-drop from file))
+      ∙ ap (λ (y : ℕ). take i (drop from file) ++ (y ∷ [])) (get_or-drop from file i 0)
+
+  pub part_turn : {before middle after : List ℕ} {at j next : ℕ} (i : ℕ) → from + i < length file
+      → Written i before at (take i (drop from file)) middle j → Written 1 middle j (get_or file (from + i) 0 ∷ []) after next
+      → Written (i + 1) before at (take (i + 1) (drop from file)) after next
+  part_turn i h w v = rw (part_more i h) (then w v)

@@ -3,3 +3,6 @@
 
 pub mod reading;
 pub mod writing;
+
+// The most that eight bytes hold: 2^64 - 1.
+pub const EIGHT_MOST: u64 = 18446744073709551615;

@@ -1,7 +1,7 @@
 -- From what is decided of a command to the response: the update written, or what is left carried out. Assumes nothing.
 use mathlib.Core.Bool.{Bool, true, false}
 use mathlib.Core.List.{List}
-use mathlib.Core.Path.{◌≡◌, refl, subst, subst⁻¹}
+use mathlib.Core.Path.{◌≡◌, refl, subst, subst⁻¹, sym}
 use Prim.Native.Nat.{ℕ, ◌<◌}
 use native.Mathlib.Omega.{arith}
 use lib.IntN.{ℤ}
@@ -19,7 +19,7 @@ use Rattle.rules.specs.declared.Command.{Command}
 use Rattle.rules.specs.declared.Command.TheVariants.{Malformed}
 use Rattle.rules.specs.declared.State.{State}
 use Rattle.commands.specs.Accounts.{account_number, place_among}
-use Rattle.engine.specs.Decision.{CarriedIs, CarriedOut, HeldBy, UpdateIs, command_left, refused_by, with_listed}
+use Rattle.engine.specs.Decision.{CarriedIs, CarriedOut, HeldBy, UpdateIs, command_left, refused_by, with_listed, DecisionIs, left_for, Carriable, PendingDone, PendingReady}
 use Rattle.engine.specs.Outcome.{OutcomeIs, with_accounts_in, with_balance_at}
 use Rattle.engine.specs.declared.answers.Outcome.{Outcome}
 use Rattle.engine.specs.declared.updates.Carried.{Carried}
@@ -37,6 +37,7 @@ use Rattle.exchange.specs.Decided.{DecidedIs, SettleLeft}
 use Rattle.exchange.specs.Response.{ResponseIs, no_report, with_report}
 use Rattle.exchange.specs.declared.settling.Response.{Response}
 use Rattle.exchange.proofs.Responses.{malformed_code, plain_response}
+use Rattle.rules.specs.declared.Account.{Account}
 
 -- ---- the account that a command names
 
@@ -51,12 +52,34 @@ place_fits {s} w number e = rw e (by_absence (is_absent number s.accountcount) r
 pub held_at_lem : (s : State) (command : Command) {place : ℕ} → place ≡ place_among (account_number command) s.accountcount → HeldBy s (account_number command) (get_or s.accounts place no_account)
 held_at_lem s command e = rw e
 
+-- a command that is told to be of a kind
+pub held_as : (s : State) {who : Account} {command told : Command} → command ≡ told → HeldBy s (account_number command) who → HeldBy s (account_number told) who
+held_as s {who} e h = subst (λ (c : Command). HeldBy s (account_number c) who) e h
+
 -- ---- what is decided
+
+settle_left : (command : Command) (u : Update) → is_settle command ≡ false → SettleLeft command u
+settle_left command Nothing h = h
+settle_left command (Balance a balance) h = h
+settle_left command (Listing l) h = h
+settle_left command (Left p) h = h
+settle_left command (Whole p) h = tt
+
+pub decided_as : {m : Memory} {command told : Command} {d : Decision} {buys sells trades : List ℕ} → command ≡ told → is_settle told ≡ false → DecisionIs m told d buys sells trades
+    → DecidedIs m command d buys sells trades
+decided_as {m} {told = told} {d = d} {buys = buys} {sells = sells} {trades = trades} e n k =
+    subst⁻¹ (λ (c : Command). DecidedIs m c d buys sells trades) e (record { decision = k; settles = settle_left told d.update n })
 
 pub malformed_decided : {s : State} {buys sells trades : List ℕ} {command : Command} {d : Decision} → command ≡ Malformed → d ≡ refused_by 1
     → DecidedIs (memory s buys sells trades) command d buys sells trades
 malformed_decided {s} {buys} {sells} {trades} e f =
     rw (e, f) (record { decision = refusal_decided (refusal s buys sells trades Malformed 1 (omega arith) (malformed_code (memory s buys sells trades)) refl) refl; settles = refl })
+
+pub whole_decided : {s : State} {buys sells trades : List ℕ} {command : Command} {d : Decision} (p : Remaining) → command ≡ command_left p → d ≡ left_for (Whole p)
+    → DecidedIs (memory s buys sells trades) command d buys sells trades
+whole_decided {s} {buys} {sells} {trades} {command} p e f =
+    subst⁻¹ (λ (v : Decision). DecidedIs (memory s buys sells trades) command v buys sells trades) f
+    (record { decision = record { told = record { same = sym e; untouched = refl } }; settles = tt })
 
 -- ---- a contract that is left to be written, by what was decided or by what was carried out
 
@@ -91,6 +114,9 @@ module _ {s : State} {buys sells trades : List ℕ} {command : Command} {d : Dec
   nothing_responded {o} {r} e f = plain_response _ command o r buys' sells' trades' (plain e) (subst⁻¹ (λ (v : Outcome). OutcomeIs (step_in (memory s buys sells trades) command) v buys' sells' trades') f (told e))
 
   module _ {a : ℕ} {balance : ℤ} (e : d.update ≡ Balance a balance) where
+    pub balance_place : a < max_accounts
+    balance_place = (told e).0
+
     -- as an i64 it is stored as it is
     module _ (fits : SFits w64 balance) where
       pub balance_left : memory (with_balance_at s a (to_z w64 (of_z w64 balance))) buys' sells' trades' ≡ (step_in (memory s buys sells trades) command).memory
@@ -113,6 +139,9 @@ module _ {s : State} {buys sells trades : List ℕ} {command : Command} {d : Dec
     listing_joined en el eb es et = rw (en, el, eb, es, et) (record { place = (told e).0; left = (told e).1.memory; plain = plain e })
 
   module _ {p : Pending} (e : d.update ≡ Left p) where
+    pub pending_ready : Carriable s p buys' sells' trades'
+    pending_ready = (told e).ready
+
     module _ {t : Carried} {buys'' sells'' trades'' : List ℕ} (done : CarriedIs s p buys' sells' trades' t buys'' sells'' trades'') where
       carried : CarriedOut (memory s buys sells trades) command t buys'' sells'' trades''
       carried = (told e).gives t buys'' sells'' trades'' done
@@ -134,9 +163,20 @@ module _ {s : State} {buys sells trades : List ℕ} {command : Command} {d : Dec
         subst (λ (c : Command). ResponseIs (memory s buys sells trades) c r buys'' sells'' trades'') (told e).same
         (subst (λ (v : Memory). ResponseIs v (command_left p) r buys'' sells'' trades'') (told e).untouched h)
 
--- ---- what is left of a quote
+-- ---- what is left, of a kind
+
+pub pending_as : (s : State) (buys sells trades : List ℕ) {pending p : Pending} → pending ≡ p → Carriable s pending buys sells trades → PendingReady s p buys sells trades
+pending_as s buys sells trades e h = subst (λ (v : Pending). PendingReady s v buys sells trades) e h.told
+
+pub done_as : (s : State) (buys sells trades : List ℕ) {pending p : Pending} → pending ≡ p → {r : Carried} (buys' sells' trades' : List ℕ) → PendingDone s p buys sells trades r buys' sells' trades'
+    → CarriedIs s pending buys sells trades r buys' sells' trades'
+done_as s buys sells trades e {r} buys' sells' trades' h = subst⁻¹ (λ (v : Pending). CarriedIs s v buys sells trades r buys' sells' trades') e (record { told = h })
 
 pub plain_left : (m : Memory) {remaining p : Remaining} (o : Outcome) {r : Response} {buys sells trades : List ℕ} → remaining ≡ p → is_settle (command_left p) ≡ false
     → OutcomeIs (step_in m (command_left p)) o buys sells trades → r ≡ with_report o no_report → ResponseIs m (command_left remaining) r buys sells trades
 plain_left m {p = p} o {r} {buys} {sells} {trades} e n k f =
     subst⁻¹ (λ (v : Remaining). ResponseIs m (command_left v) r buys sells trades) e (plain_response m (command_left p) o r buys sells trades n k f)
+
+pub settled_left : (m : Memory) {remaining p : Remaining} {r : Response} {buys sells trades : List ℕ} → remaining ≡ p → ResponseIs m (command_left p) r buys sells trades
+    → ResponseIs m (command_left remaining) r buys sells trades
+settled_left m {r = r} {buys = buys} {sells = sells} {trades = trades} e k = subst⁻¹ (λ (v : Remaining). ResponseIs m (command_left v) r buys sells trades) e k

@@ -2,7 +2,7 @@
 -- and its report. Assumes nothing.
 use mathlib.Core.Bool.{true, false}
 use mathlib.Core.List.{List}
-use mathlib.Core.Path.{◌≡◌, refl, ap, ◌∙◌}
+use mathlib.Core.Path.{◌≡◌, refl, ap, ◌∙◌, subst}
 use Prim.Native.Nat.{ℕ, zero, suc, ◌<◌, ◌≤◌}
 use borrow.Author.Tests.{le-leb, lt-leb}
 use native.Mathlib.Omega.{arith}
@@ -115,3 +115,8 @@ pub executed : (m : Memory) (command : Command) {r : Response} {buys sells trade
     → ExecutedIs m command r buys sells trades
 unfolding respond
 executed m command w k = record { answer = rw w k.answer; memory = rw w k.memory; report = rw w k.report }
+
+-- a command that is told to be another
+pub executed_as : {m : Memory} {command told : Command} {r : Response} {buys sells trades : List ℕ} → told ≡ command → ExecutedIs m told r buys sells trades
+    → ExecutedIs m command r buys sells trades
+executed_as {m} {r = r} {buys = buys} {sells = sells} {trades = trades} e k = subst (λ (d : Command). ExecutedIs m d r buys sells trades) e k

@@ -27,7 +27,7 @@ use Rattle.theory.proofs.Sweep.{sweep_end, sweep_unmet}
 use Rattle.book.proofs.Trading.{all_booked}
 use Rattle.matching.specs.Entry.{EntryIs, EntryReady}
 use Rattle.matching.specs.declared.entry.Entry.{Entry}
-use Rattle.engine.specs.Arrival.{Arrived, ArrivedIs, Arriving, ArrivalReady, entered_for, entered_on, orders_on}
+use Rattle.engine.specs.Arrival.{Arrived, ArrivedIs, Arriving, ArrivalReady, entered_for, entered_on, orders_on, Arrives, Trades}
 use Rattle.engine.specs.Decision.{CarriedOut, DecisionIs, LeftIs, UpdateIs, accepted_by, left_for, outcome_of}
 use Rattle.engine.specs.Outcome.{OutcomeIs}
 use Rattle.engine.specs.Sides.{side_area}
@@ -40,6 +40,10 @@ use Rattle.engine.specs.declared.updates.Pending.TheVariants.{Trading}
 use Rattle.engine.specs.declared.updates.Update.{Update}
 use Rattle.engine.specs.declared.updates.Update.TheVariants.{Nothing, Balance, Listing, Left, Whole}
 use Rattle.insertion.specs.Entry.{ArriveIs, ArriveOn, ArrivedTo, DecidedAs, TradedOn, TradesOn, rested_alone, rests_alone, unmet}
+use Rattle.matching.specs.Sweep.{SweepReady}
+use denote.Enum.Declared.{tag_of}
+use types.Run.{OneOf, miss}
+use Rattle.engine.specs.contracts.updates.Update.{the_type}
 
 -- ---- the front of the opposite queue
 
@@ -66,6 +70,19 @@ module _ (a : Arrival) (queue : List Order) (elsewhere : a.listed.terms.phase �
 unmet_sweep : (t : Taker) (left last : ℕ) (queue : List Order) → unmet t queue ≡ true → sweep t left last queue ≡ untouched queue
 unmet_sweep t left last [] e = sweep_end t left last
 unmet_sweep t left last (o ∷ os) e = sweep_unmet t left last o os (not-true (counterpart t o) e)
+
+-- ---- the lots that rest of it
+
+module _ (a : Arrival) where
+  pub rested_auction : a.listed.terms.phase ≡ 4 → a.order.lots ≡ rested_alone a
+  rested_auction e = rw (eq-eqb a.listed.terms.phase 4 e)
+
+  module _ (elsewhere : a.listed.terms.phase ≡ 4 → ⊥) {day : Bool} (ed : day ≡ is_good_for_day a.order.time) where
+    pub rested_day : day ≡ true → a.order.lots ≡ rested_alone a
+    rested_day e = rw (ne_eqb a.listed.terms.phase 4 elsewhere, sym ed ∙ e)
+
+    pub rested_none : day ≡ false → 0 ≡ rested_alone a
+    rested_none e = rw (ne_eqb a.listed.terms.phase 4 elsewhere, sym ed ∙ e)
 
 -- ---- left to trade
 
@@ -170,6 +187,18 @@ module _ {a : Arrival} {owns : List ℕ} {own : ℕ} {opposites : List ℕ} {opp
 -- ---- the same of the areas as they are lent, for a side as the code tells it
 
 module _ {a : Arrival} (buys sells : List ℕ) (side : Bool) (es : a.taker.sell ≡ side) where
+  pub on_side : Arrives a buys sells → Arriving a (side_area side buys sells) (orders_on side a.listed) (side_area (not side) buys sells) (orders_on (not side) a.listed)
+  on_side = rw es (λ arrives. arrives)
+
+  pub trades_side : {accounts : List Account} {area : List ℕ} → Trades accounts a buys sells area
+      → TradesOn accounts a (side_area side buys sells) (orders_on side a.listed) (side_area (not side) buys sells) (orders_on (not side) a.listed) area
+  trades_side {accounts} {area} t =
+      record {
+        arrives = on_side t.ready.arrives;
+        matched = t.matched;
+        sweeps = subst (λ (b : Bool). SweepReady a.taker a.order.lots a.listed.terms.last accounts (side_area (not b) buys sells) (orders_on (not b) a.listed) area a.listed.recorded) es (t.ready.sweeps t.matched);
+      }
+
   pub side_traded : {accounts : List Account} {area : List ℕ} {r : Carried} (buys' sells' : List ℕ) {area' : List ℕ}
       → TradedOn accounts a (side_area side buys sells) (orders_on side a.listed) (side_area (not side) buys sells) (orders_on (not side) a.listed) area r (side_area side buys' sells') (side_area (not side) buys' sells') area'
       → ArrivedIs accounts a buys sells area r buys' sells' area'
@@ -205,6 +234,25 @@ module _ {a : Arrival} {buys sells : List ℕ} {d : Decision} {buys' sells' : Li
   pub listing_entered : {l : Listed} → d.update ≡ Listing l → (accounts : List Account) (area : List ℕ)
       → ArrivedIs accounts a buys sells area (record { accounts = accounts; listed = l; answer = d.answer }) buys' sells' area
   listing_entered e = told e
+
+  -- nothing else is left of an order but that it trades
+  module _ (other : OneOf (0 ∷ 1 ∷ 3 ∷ 4 ∷ []) (tag_of the_type d.update)) where
+    pub untouched_then : (in_auction a.listed.terms ≡ false) × (buys' ≡ buys) × (sells' ≡ sells)
+    untouched_then = by_update d.answer d.update other k.told
+      where
+        by_update : (answer : Answer) (u : Update) → OneOf (0 ∷ 1 ∷ 3 ∷ 4 ∷ []) (tag_of the_type u) → DecidedAs a buys sells answer u buys' sells' → (in_auction a.listed.terms ≡ false) × (buys' ≡ buys) × (sells' ≡ sells)
+        by_update answer Nothing o k = absurd k
+        by_update answer (Balance place balance) o k = absurd k
+        by_update answer (Listing l) o k = absurd (miss (0 ∷ 1 ∷ 3 ∷ 4 ∷ []) 2 tt o)
+        by_update answer (Left p) o k = (k.1, k.2, k.3)
+        by_update answer (Whole p) o k = absurd k
+
+    module _ {accounts : List Account} {area : List ℕ} where
+      pub trades_then : ArrivalReady accounts a buys sells area → Trades accounts a buys' sells' area
+      trades_then ready = rw (untouched_then.1, untouched_then.2) (record { ready = ready; matched = untouched_then.0 })
+
+      pub traded_then : {r : Carried} (buys'' sells'' : List ℕ) {area' : List ℕ} → ArrivedIs accounts a buys' sells' area r buys'' sells'' area' → ArrivedIs accounts a buys sells area r buys'' sells'' area'
+      traded_then buys'' sells'' h = rw (untouched_then.1, untouched_then.2) at h
 
 -- ---- what is decided of a command that comes down to an order
 

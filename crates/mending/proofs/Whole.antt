@@ -72,6 +72,13 @@ module _ (file : List ℕ) (first : ℕ) where
         length_last (partial_record file first),
       )
 
+pub dropped_most : (file : List ℕ) (first : ℕ) → dropped_count file first ≤ whole_records file first + 1
+dropped_most file first = by_partial (partial_record file first)
+  where
+    by_partial : (t : Bool) → whole_records file first - kept file first (whole_records file first) + pick t 1 0 ≤ whole_records file first + 1
+    by_partial true = omega arith
+    by_partial false = omega arith
+
 pub place_most : (file : List ℕ) → head_sound file ≡ true → command_place file 0 ≤ 3 * count_width + contract_width * max_contracts + account_width * max_accounts
 place_most file sound = omega (arith, (sound_head file sound).contracts, (sound_head file sound).accounts, command_place_lem file 0)
 
@@ -158,6 +165,9 @@ module _ {file : List ℕ} {first n d : ℕ} (l : Listed file first n d) where
 
   pub number_fits : {room : ℕ} → length (list_from file first) ≤ room → list_count_width ≤ room
   number_fits h = omega (arith, list_is)
+
+  pub listed_most : list_count_width + entry_width * d ≤ length file + (list_count_width + entry_width)
+  listed_most = omega (arith, l.drops, l.records, dropped_most file first, listed_within)
 
   whole_dropped : entry_width * (n - kept file first n) ≤ entry_width * d
   whole_dropped = rw (l.records, l.drops) (omega arith)

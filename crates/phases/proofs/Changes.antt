@@ -1,11 +1,11 @@
 -- Changes of a contract's state: the code's tests are the rules' refusals, and the contract changed is the rules' state. Assumes
 -- nothing.
-use mathlib.Core.Bool.{Bool, true, false, not, true≢false}
+use mathlib.Core.Bool.{Bool, true, false, not, true≢false, ◌||◌}
 use mathlib.Core.List.{List, append-nil}
 use mathlib.Core.Path.{◌≡◌, refl, sym, ap, ◌∙◌}
 use Prim.Native.Nat.{ℕ, ◌+◌, ◌-◌, ◌<◌}
 use native.Mathlib.Omega.{arith}
-use borrow.Author.Tests.{eqb-true, le-ltb}
+use borrow.Author.Tests.{eqb-true, le-ltb, ne_eqb}
 use lib.Dec.{eqb, ltb}
 use lib.ListN.{length, get_or}
 use Rattle.laws.specs.Choice.{pick}
@@ -32,15 +32,65 @@ use Rattle.engine.proofs.Formed.{Formed, formed, listing_at_lem, no_contract_lem
 use Rattle.engine.proofs.Outcomes.{refusal, acceptance}
 use Rattle.engine.proofs.Puts.{put_contract, trades_count}
 use Rattle.engine.proofs.Tests.{place_below}
+use mathlib.Core.Logic.{◌≢◌}
 
--- out of auction there is one change
-pub from_auction : (to : ℕ) → change_listed 4 to ≡ eqb to 1
-unfolding change_listed
-from_auction to = refl
+-- ---- the changes listed, by the state they start from
+
+module _ (to : ℕ) where
+  pub from_pre_open : change_listed 0 to ≡ (eqb to 4 || (eqb to 1 || eqb to 3))
+  unfolding change_listed
+  from_pre_open = by_phase (eqb to 1) (eqb to 3) (eqb to 4)
+    where
+      by_phase : (a b c : Bool) → (a || b || false || false || false || false || c || false) ≡ (c || (a || b))
+      by_phase true b true = refl
+      by_phase true b false = refl
+      by_phase false true true = refl
+      by_phase false true false = refl
+      by_phase false false true = refl
+      by_phase false false false = refl
+
+  pub from_continuous : change_listed 1 to ≡ (eqb to 2 || eqb to 3)
+  unfolding change_listed
+  from_continuous = by_phase (eqb to 2) (eqb to 3)
+    where
+      by_phase : (a b : Bool) → (false || false || a || false || b || false || false || false) ≡ (a || b)
+      by_phase true b = refl
+      by_phase false true = refl
+      by_phase false false = refl
+
+  pub from_no_trading : change_listed 2 to ≡ (eqb to 1 || eqb to 3)
+  unfolding change_listed
+  from_no_trading = by_phase (eqb to 1) (eqb to 3)
+    where
+      by_phase : (a b : Bool) → (false || false || false || a || false || b || false || false) ≡ (a || b)
+      by_phase true b = refl
+      by_phase false true = refl
+      by_phase false false = refl
+
+  pub from_auction : change_listed 4 to ≡ eqb to 1
+  unfolding change_listed
+  from_auction = refl
+
+  pub from_other : (from : ℕ) → from ≢ 0 → from ≢ 1 → from ≢ 2 → from ≢ 4 → change_listed from to ≡ false
+  unfolding change_listed
+  from_other from p q r u = simp (ne_eqb from 0 p, ne_eqb from 1 q, ne_eqb from 2 r, ne_eqb from 4 u)
 
 -- ---- a change that makes a match
 
 module _ (s : State) (contract phase : ℕ) where
+  pub other_phase : phase ≢ 1 → false ≡ is_match s contract phase
+  unfolding is_match
+  other_phase h = sym (rw (ne_eqb phase 1 h))
+
+  module _ (e : phase ≡ 1) where
+    pub no_such_contract : is_absent contract s.contractcount ≡ true → false ≡ is_match s contract phase
+    unfolding is_match
+    no_such_contract h = sym (rw (e, h))
+
+    pub match_by_phase : is_absent contract s.contractcount ≡ false → {place : ℕ} → place ≡ contract - 1 → eqb (get_or s.contracts place no_contract).phase 4 ≡ is_match s contract phase
+    unfolding is_match
+    match_by_phase h is = sym (rw (e, h, is))
+
   -- a contract in auction whose change is listed makes one
   match_listed : is_absent contract s.contractcount ≡ false → in_auction (get_or s.contracts (contract - 1) no_contract) ≡ true
       → change_listed (get_or s.contracts (contract - 1) no_contract).phase phase ≡ true → is_match s contract phase ≡ true

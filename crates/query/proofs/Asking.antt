@@ -131,3 +131,7 @@ other_than_insert (Phase contract phase) other = refl
 other_than_insert Settle other = refl
 other_than_insert (Quote account contract lots buy sell) other = refl
 other_than_insert (Change account contract number lots price) other = refl
+
+-- a record that is told to be another
+pub asked_as : (m : Memory) {asked told : Record} {a : Reading} → told ≡ asked → a ≡ gettable_now m told → a ≡ gettable_now m asked
+asked_as m e q = q ∙ ap (gettable_now m) e

@@ -5,7 +5,7 @@ use Rattle.std.proofs.lemmas.Result.{err_from_is_err_and}
 use mathlib.Core.Bool.{Bool, true, false}
 use mathlib.Core.List.{List}
 use mathlib.Core.Path.{◌≡◌, refl, sym, ap, ◌∙◌}
-use Prim.Native.Nat.{ℕ, ◌+◌, ◌-◌, ◌<◌}
+use Prim.Native.Nat.{ℕ, ◌+◌, ◌-◌, ◌<◌, ◌≤◌}
 use native.Mathlib.Omega.{arith}
 use borrow.Author.Tests.{eqb-true, ne_eqb}
 use lib.Dec.{eqb}
@@ -63,6 +63,9 @@ module _ {s : State} {buys sells trades : List ℕ} (w : WellFormedState s buys 
 
   f : Formed m
   f = formed w
+
+  pub marked_low : 1 ≤ o.account
+  marked_low = g.present.account_low
 
   pub marked_fits : {place : ℕ} → place ≡ o.account - 1 → place < max_accounts
   marked_fits e = omega (arith, g.present.account, f.accounts_high)

@@ -100,3 +100,8 @@ module _ {s : State} {buys sells trades : List ℕ} (w : WellFormedState s buys 
   -- the trades that one order can make
   pub kept_room : {at n : ℕ} → at ≡ made_from s.tradecount → n ≡ trade_stride * max_resting → at + n ≤ length trades
   kept_room ea en = rw (ea, en) (omega (arith, made_room s.tradecount, (formed w).trades_room))
+
+-- an area is as it was once the words kept of it are put back
+pub undone : {at n : ℕ} {before after : List ℕ} → Undoable at n before after → {at' n' : ℕ} → at' ≡ at → n' ≡ n
+    → {kept back : List ℕ} → kept ≡ take n' (drop at' before) → back ≡ over after at' kept → back ≡ before
+undone u ea en e h = h ∙ rw (e, ea, en) u.back

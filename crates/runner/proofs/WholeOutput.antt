@@ -3,10 +3,10 @@
 use mathlib.Core.Bool.{Bool, true, false, not, ◌&&◌, true≢false}
 use mathlib.Core.List.{List, [], ◌∷◌, ◌++◌, append-nil}
 use mathlib.Core.Path.{◌≡◌, refl, sym, ap, ◌∙◌}
-use Prim.Native.Nat.{ℕ, zero, suc, ◌+◌, ◌<◌, ◌≤◌}
+use Prim.Native.Nat.{ℕ, zero, suc, ◌+◌, ◌<◌, ◌≤◌, ◌-◌}
 use native.Mathlib.Nat.{le_refl}
 use native.Mathlib.Omega.{arith}
-use borrow.Author.Tests.{eqb-true, ltb-false, le-ltb, lt-ltb, not-true, not-false}
+use borrow.Author.Tests.{eqb-true, ltb-false, le-ltb, lt-ltb, not-true, not-false, eqb-false, ltb-true}
 use lib.Dec.{eqb, ltb}
 use lib.ListN.{length, take, drop}
 use lib.Seq.{length-slice, slice_empty, take-append_seam, take-length}
@@ -31,6 +31,7 @@ use Rattle.runner.specs.declared.output.Printed.{Printed}
 use Rattle.runner.specs.declared.play.Played.{Played}
 use Rattle.runner.proofs.Opened.{opens_formed}
 use Rattle.runner.proofs.Playing.{length_commands, lines_append, part_part}
+use Rattle.laws.specs.Choice.{pick, both_true}
 
 -- what stands in front of a buffer that was written from its start
 front : {most end : ℕ} {before bytes after : List ℕ} → Written most before 0 bytes after end → take end after ≡ bytes
@@ -203,6 +204,31 @@ module _ (file : List ℕ) (k : ℕ) (state : State) (buys sells trades out : Li
     pub printed_part : command_most ≤ length out → {r : Printed} {m' : Memory} {out' : List ℕ} → PartIs file k lent out r m' out' → LinesIs file k lent out r m' out'
     unfolding first_of
     printed_part l p = record { code = p.accepted ∙ rw (playable, le-ltb (length out) command_most l); printed = λ q. p; refused = λ some. absurd (some p.accepted) }
+
+-- what a caller may do with it: the part is within its buffer, and behind one that has more the next begins further on, at a command
+module _ {file : List ℕ} {k : ℕ} {m m' : Memory} {out out' : List ℕ} {r : Printed} (is : LinesIs file k m out r m' out') where
+  by_code : {P : Type 0} → (PartIs file k m out r m' out' → P) → (r ≡ untouched r.code k m.state → P) → (b : Bool) → eqb r.code 0 ≡ b → P
+  by_code p q true e = p (is.printed (eqb-true r.code 0 e))
+  by_code p q false e = q (is.refused (eqb-false r.code 0 e)).0
+
+  pub inside_buffer : r.length ≤ length out
+  inside_buffer = by_code (λ p. p.within) (λ e. rw (ap (λ (v : Printed). v.length) e) (omega arith)) (eqb r.code 0) refl
+
+  pub goes_further : r.more ≡ true → (k < r.next) × (r.next < commands_in file)
+  goes_further more =
+      by_code
+      (λ p. (p.onward more, ltb-true r.next (commands_in file) (both_true (sound file) (ltb r.next (commands_in file)) (sym p.more ∙ more)).1))
+      (λ e. absurd (true≢false (sym more ∙ ap (λ (v : Printed). v.more) e)))
+      (eqb r.code 0) refl
+
+-- whoever asks again only then has fewer commands left
+pub fewer_left : {more again now : Bool} (written : Bool) {n k next : ℕ} → (more ≡ true → (k < next) × (next < n)) → again ≡ (more && written) → now ≡ true
+    → pick again (1 + (n - next)) 0 < pick now (1 + (n - k)) 0
+fewer_left {more} {again} {now} written {n} {k} {next} further e here = rw here (by_again again refl)
+  where
+    by_again : (b : Bool) → again ≡ b → pick again (1 + (n - next)) 0 < 1 + (n - k)
+    by_again true q = let f = further (both_true more written (sym e ∙ q)).0 in rw q (omega (arith, f.0, f.1))
+    by_again false q = rw q (omega arith)
 
 -- ---- all parts
 

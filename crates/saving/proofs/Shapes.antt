@@ -102,6 +102,24 @@ module _ (bs : List ℕ) (c a n : ℕ) (e : c ≡ contracts_in bs) (f : a ≡ sa
         })
         ∙ sym q
 
+-- a file that passed
+pub shaped_long : (bs : List ℕ) → shaped bs ≡ true → count_width ≤ length bs
+shaped_long bs h = omega (arith, (lengths bs h).ends)
+
+pub count_ready : (bs : List ℕ) (c : ℕ) → c ≡ contracts_in bs → shaped bs ≡ true → (c ≡ contracts_in bs) × (c ≤ max_contracts) × (2 * count_width + saved_contract_width * c ≤ length bs)
+count_ready bs c e h = let l = lengths bs h in (e, omega (arith, e, l.few_contracts), omega (arith, e, l.ends))
+
+pub shaped_laid : (bs : List ℕ) (c a : ℕ) → c ≡ contracts_in bs → a ≡ saved_accounts_in bs → shaped bs ≡ true → Laid bs c a
+shaped_laid bs c a e f h =
+    let l = lengths bs h in
+    record {
+      contracts_are = e;
+      accounts_are = f;
+      few_contracts = omega (arith, e, l.few_contracts);
+      few_accounts = omega (arith, f, l.few_accounts);
+      ends = rw (e, f) l.ends;
+    }
+
 module _ (bs : List ℕ) (c a : ℕ) (l : Laid bs c a) where
   holdings_place : 2 * count_width + saved_contract_width * c + saved_account_width * a ≡ saved_account_place (contracts_in bs) (saved_accounts_in bs)
   holdings_place = omega (arith, l.contracts_are, l.accounts_are)
