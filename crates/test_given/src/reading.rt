@@ -71,12 +71,14 @@ impl<'a> Reader<'a> {
     pub fn bytes(&mut self, area: &mut [u8]) -> usize {
         let mut total: usize = 0;
         for _ in 0..self.number() {
-            let [times, length] = self.numbers::<2>();
-            let end = total.saturating_add(product(times as usize, length as usize));
-            if let Some(room) = area.get_mut(total..end.min(area.len())) {
-                self.fill_with_part(length as usize, room);
+            let times = self.number() as usize;
+            let length = self.number() as usize;
+            let end = total.saturating_add(product(times, length));
+            let room_end = end.min(area.len());
+            if total < room_end {
+                self.fill_with_part(length, &mut area[total..room_end]);
             }
-            self.at = self.at.saturating_add(length as usize);
+            self.at = self.at.saturating_add(length);
             total = end;
         }
         total
