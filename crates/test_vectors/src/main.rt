@@ -12,10 +12,10 @@ use test_given::reading::Reader;
 
 const STDOUT_FILENO: i32 = 1;
 
-// "call, before, arguments, answer, after". Whether the call answered and left what is told.
-fn run_vector(vector: &mut Reader) -> bool {
+// "call, before, arguments, answer, after". Whether the call answered and left what is told. The filling is made once for a file.
+fn run_vector(vector: &mut Reader, filled: &Given) -> bool {
     let call = Call::from_number(vector.number());
-    let mut given = Given::filled();
+    let mut given = *filled;
     put_edits(vector, &mut given);
     let mut left = given;
     let same = match call {
@@ -50,9 +50,10 @@ fn say_counts(name: &[u8], vectors: u64, different: u64) {
 fn run_vectors(name: &[u8], file: &[u8]) {
     let mut vector = Reader::new(file);
     let vectors = vector.number();
+    let filled = Given::filled();
     let mut different: u64 = 0;
     for k in 0..vectors {
-        if !run_vector(&mut vector) {
+        if !run_vector(&mut vector, &filled) {
             say_vector(name, k + 1);
             different += 1;
         }
