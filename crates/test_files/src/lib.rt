@@ -6,7 +6,6 @@ ghost use Rattle.std.specs.Prelude.{◌≤◌, length};
 
 use std::fs::File;
 use std::os::fd::AsRawFd;
-use std::str;
 
 // What the file of that name holds, as far as there is room for it; nothing where it cannot be read.
 pub fn read_named<'a>(rt: &HostRuntime, name: &str, area: &'a mut [u8]) -> &'a [u8]
@@ -17,9 +16,4 @@ pub fn read_named<'a>(rt: &HostRuntime, name: &str, area: &'a mut [u8]) -> &'a [
     };
     let n = io::read_full(file.as_raw_fd(), area);
     &area[..n]
-}
-
-// The same as text; nothing where it is none.
-pub fn read_text<'a>(rt: &HostRuntime, name: &str, area: &'a mut [u8]) -> &'a str {
-    str::from_utf8(read_named(rt, name, area)).unwrap_or("")
 }

@@ -1,7 +1,7 @@
 // The state and the areas that a vector tells: a filling, and edits of it (`tools/model/vectors.py`, `tools/model/memory.py`).
 ghost use Rattle.std.specs.Prelude.{◌≤◌};
 
-use crate::reading::{Reader, narrowed, put, signed};
+use crate::reading::{Reader, narrowed, product, put, signed};
 use rules::{Account, Contract, Holding, State};
 
 const QUEUES: usize = 3360;
@@ -9,6 +9,17 @@ const QUEUES: usize = 3360;
 const TRADES: usize = 9300;
 
 const ANSWERS: usize = 500;
+
+// Where an area begins among the words of all, which stand one after the other.
+const BUYS_AT: usize = 0;
+
+const SELLS_AT: usize = BUYS_AT + QUEUES;
+
+const TRADES_AT: usize = SELLS_AT + QUEUES;
+
+const ANSWERS_AT: usize = TRADES_AT + TRADES;
+
+const WORDS: usize = ANSWERS_AT + ANSWERS;
 
 // The word that a filling begins with.
 const FILLING: u32 = 2779096485;
@@ -38,6 +49,20 @@ impl Areas {
         fill(&mut areas.answers, next);
         areas
     }
+
+    // Writes from a place on, through the areas one after the other, what there is room for.
+    fn put(&mut self, at: usize, words: &[u32]) {
+        let left = put_in(&mut self.buys, at, words);
+        let left = put_in(&mut self.sells, at.saturating_sub(SELLS_AT), left);
+        let left = put_in(&mut self.trades, at.saturating_sub(TRADES_AT), left);
+        put(&mut self.answers, at.saturating_sub(ANSWERS_AT), left);
+    }
+}
+
+// Writes into an area from a place on. The words that it has no room for.
+fn put_in<'a>(area: &mut [u32], at: usize, words: &'a [u32]) -> &'a [u32] {
+    put(area, at, words);
+    words.get(area.len().saturating_sub(at)..).unwrap_or(&[])
 }
 
 // The word behind the last one of the filling.
@@ -132,23 +157,24 @@ enum Edit {
     Sells,
     Trades,
     Answers,
+    Other,
 }
 
 impl Edit {
     // The edit of a number.
-    fn from_number(number: u64) -> Option<Edit> {
+    fn from_number(number: u64) -> Edit {
         match number {
-            0 => Some(Edit::Counts),
-            1 => Some(Edit::Lengths),
-            2 => Some(Edit::Contract),
-            3 => Some(Edit::Queues),
-            4 => Some(Edit::Account),
-            5 => Some(Edit::Holding),
-            6 => Some(Edit::Buys),
-            7 => Some(Edit::Sells),
-            8 => Some(Edit::Trades),
-            9 => Some(Edit::Answers),
-            _ => None,
+            0 => Edit::Counts,
+            1 => Edit::Lengths,
+            2 => Edit::Contract,
+            3 => Edit::Queues,
+            4 => Edit::Account,
+            5 => Edit::Holding,
+            6 => Edit::Buys,
+            7 => Edit::Sells,
+            8 => Edit::Trades,
+            9 => Edit::Answers,
+            _ => Edit::Other,
         }
     }
 }
@@ -167,7 +193,7 @@ fn put_counts(vector: &mut Reader, state: &mut State) {
 // "as many records as it is long, and words more (may be negative)"
 fn area_length(vector: &mut Reader, width: usize) -> usize {
     let [records, more] = vector.numbers::<2>();
-    let whole = width.saturating_mul(records as usize);
+    let whole = product(records as usize, width);
     let words = signed(more);
     let apart = words.unsigned_abs() as usize;
     if words < 0 {
@@ -252,16 +278,26 @@ fn put_holding(vector: &mut Reader, state: &mut State) {
 }
 
 // "first place in the area, count, step, the fields of the first record"; of each further record the fields at `rising` are higher by
-// the step.
-fn put_records<const WIDTH: usize>(vector: &mut Reader, area: &mut [u32], rising: &[usize])
+// the step. The area begins at `base`. Fields that are not told are zero.
+fn put_records<const WIDTH: usize>(
+    vector: &mut Reader,
+    areas: &mut Areas,
+    base: usize,
+    told: usize,
+    rising: &[usize],
+)
     requires { WIDTH ≤ 16 }
 {
     let [place, count, step] = vector.numbers::<3>();
     let step: u32 = narrowed(step);
-    let mut record = vector.record::<WIDTH>();
-    let mut at = WIDTH.saturating_mul(place as usize);
-    for _ in 0..count {
-        put(area, at, &record);
+    let mut record = [0u32; WIDTH];
+    for word in record.iter_mut().take(told) {
+        *word = narrowed(vector.number());
+    }
+    let mut at = base.saturating_add(WIDTH.saturating_mul(place as usize));
+    // there is room for no more records than words
+    for _ in 0..count.min(WORDS as u64) {
+        areas.put(at, &record);
         at = at.saturating_add(WIDTH);
         for field in rising {
             if let Some(word) = record.get_mut(*field) {
@@ -271,9 +307,20 @@ fn put_records<const WIDTH: usize>(vector: &mut Reader, area: &mut [u32], rising
     }
 }
 
-fn put_orders(vector: &mut Reader, area: &mut [u32]) {
+// Orders of which so many fields are told.
+fn put_orders(vector: &mut Reader, areas: &mut Areas, base: usize, told: usize) {
     let rising = [rules::NUMBER_WORD, rules::STAMP_WORD];
-    put_records::<{ rules::ORDER_STRIDE }>(vector, area, &rising);
+    put_records::<{ rules::ORDER_STRIDE }>(vector, areas, base, told, &rising);
+}
+
+fn put_trades(vector: &mut Reader, areas: &mut Areas) {
+    let told = rules::TRADE_STRIDE;
+    put_records::<{ rules::TRADE_STRIDE }>(vector, areas, TRADES_AT, told, &[1]);
+}
+
+fn put_answers(vector: &mut Reader, areas: &mut Areas) {
+    let told = rules::ANSWER_STRIDE;
+    put_records::<{ rules::ANSWER_STRIDE }>(vector, areas, ANSWERS_AT, told, &[1]);
 }
 
 fn put_edit(vector: &mut Reader, edit: Edit, given: &mut Given) {
@@ -284,23 +331,19 @@ fn put_edit(vector: &mut Reader, edit: Edit, given: &mut Given) {
         Edit::Queues => put_queues(vector, &mut given.state),
         Edit::Account => put_account(vector, &mut given.state),
         Edit::Holding => put_holding(vector, &mut given.state),
-        Edit::Buys => put_orders(vector, &mut given.areas.buys),
-        Edit::Sells => put_orders(vector, &mut given.areas.sells),
-        Edit::Trades => {
-            put_records::<{ rules::TRADE_STRIDE }>(vector, &mut given.areas.trades, &[1])
-        }
-        Edit::Answers => {
-            put_records::<{ rules::ANSWER_STRIDE }>(vector, &mut given.areas.answers, &[1])
-        }
+        Edit::Buys => put_orders(vector, &mut given.areas, BUYS_AT, rules::ORDER_STRIDE),
+        Edit::Sells => put_orders(vector, &mut given.areas, SELLS_AT, rules::ORDER_STRIDE),
+        Edit::Trades => put_trades(vector, &mut given.areas),
+        Edit::Answers => put_answers(vector, &mut given.areas),
+        // as many numbers as of an answer, put as orders
+        Edit::Other => put_orders(vector, &mut given.areas, ANSWERS_AT, rules::ANSWER_STRIDE),
     }
 }
 
-// "count of edits, then each edit". A number that is no edit's ends them, and what is left to read then differs.
+// "count of edits, then each edit".
 pub fn put_edits(vector: &mut Reader, given: &mut Given) {
     for _ in 0..vector.number() {
-        let Some(edit) = Edit::from_number(vector.number()) else {
-            return;
-        };
+        let edit = Edit::from_number(vector.number());
         put_edit(vector, edit, given);
     }
 }

@@ -71,12 +71,15 @@ impl<'a> Reader<'a> {
     pub fn bytes(&mut self, area: &mut [u8]) -> usize {
         let mut total: usize = 0;
         for _ in 0..self.number() {
-            let times = self.number();
-            let part = self.part();
-            for _ in 0..times {
-                put(area, total, part);
-                total = total.saturating_add(part.len());
+            let times = self.number() as usize;
+            let length = self.number() as usize;
+            let end = total.saturating_add(product(times, length));
+            let room_end = end.min(area.len());
+            if total < room_end {
+                self.fill_with_part(length, &mut area[total..room_end]);
             }
+            self.at = self.at.saturating_add(length);
+            total = end;
         }
         total
     }
@@ -87,13 +90,25 @@ impl<'a> Reader<'a> {
         first(area, length)
     }
 
-    // "length, and the bytes themselves", as far as the file has them.
-    fn part(&mut self) -> &'a [u8] {
-        let length = self.number() as usize;
+    // A part of a length, again and again until there is no more room; of a part without a length its first byte. What the file lacks of it
+    // is zero.
+    fn fill_with_part(&self, length: usize, room: &mut [u8]) {
         let left = self.file.get(self.at..).unwrap_or(&[]);
-        self.at = self.at.saturating_add(length);
-        first(left, length)
+        let length = length.max(1);
+        let part = first(left, length);
+        room.fill(0);
+        for place in room.chunks_mut(length) {
+            put(place, 0, part);
+        }
     }
+}
+
+// No file and no area is so long.
+const FAR: usize = 1000000;
+
+// A product, and no product of what is so far.
+pub(crate) fn product(a: usize, b: usize) -> usize {
+    if a < FAR && b < FAR { a * b } else { FAR }
 }
 
 // Writes from a place on what there is room for.

@@ -1,8 +1,10 @@
 // The calls, each on what a vector gives and held against what the vector tells.
 use book::side;
 use exchange::settling::Report;
+use mending::mend::Mended;
 use rules::{Answer, State};
-use saving::Loaded;
+use saving::{Loaded, Saved};
+use statements::Statement;
 use test_given::building::{Areas, Given, queue_from};
 use test_given::reading::{Reader, fill_bytes, first, narrowed, signed};
 
@@ -115,7 +117,8 @@ fn bundle(vector: &mut Reader, lent: &mut Lent) -> bool {
         lent.answers,
     );
     *lent.state = receipt.state;
-    u64::from(receipt.code) == vector.number()
+    let code: u32 = narrowed(vector.number());
+    receipt.code == code
 }
 
 // A list of commands with their answers: how many were played.
@@ -138,8 +141,9 @@ fn question(vector: &mut Reader, lent: &Lent) -> bool {
     let mut bytes = [0u8; rules::COMMAND_WIDTH];
     vector.bytes(&mut bytes);
     let found = query::gettable(*lent.state, lent.buys, lent.sells, lent.trades, bytes);
-    let [code, lots, read] = vector.numbers::<3>();
-    u64::from(found.code) == code && u64::from(found.lots) == lots && found.read as u64 == read
+    let [code, lots] = vector.record::<2>();
+    let read = vector.number();
+    found.code == code && found.lots == lots && found.read as u64 == read
 }
 
 // "1 for sells, contract, contracts, count": the orders told are those of the queue, from its first on.
@@ -177,58 +181,71 @@ fn statement(vector: &mut Reader, lent: &Lent) -> bool {
     let starts = vector.words(&mut lots);
     let mut posted = [0u32; 200];
     let postings = vector.words(&mut posted);
-    let [length, code] = vector.numbers::<2>();
+    let length = vector.number() as usize;
+    let code: u32 = narrowed(vector.number());
     let mut out = [0u8; 2100];
     fill_bytes(&mut out);
-    let Some(part) = out.get_mut(..length as usize) else {
-        return false;
+    let found = match out.get_mut(..length) {
+        Some(part) => statements::client_statement(
+            *lent.state,
+            lent.buys,
+            lent.sells,
+            lent.trades,
+            account,
+            clients,
+            starts,
+            postings,
+            part,
+        ),
+        None => Statement { code: 0, length: 0 },
     };
-    let found = statements::client_statement(
-        *lent.state,
-        lent.buys,
-        lent.sells,
-        lent.trades,
-        account,
-        clients,
-        starts,
-        postings,
-        part,
-    );
     let same = same_bytes(vector, &out, found.length);
-    same && u64::from(found.code) == code
+    same && found.code == code
+}
+
+// What a mending gives; where there is no area, as it would refuse with code 1.
+fn mended(source: &[u8], out: Option<&mut [u8]>, list: Option<&mut [u8]>) -> Mended {
+    if let (Some(out), Some(list)) = (out, list) {
+        return mending::mend::mend(source, out, list);
+    }
+    Mended {
+        code: 1,
+        length: 0,
+        listed: 0,
+    }
 }
 
 fn mend_file(vector: &mut Reader) -> bool {
     let mut file = [0u8; 50000];
     let source = vector.part_of(&mut file);
-    let [length, list_length, code] = vector.numbers::<3>();
+    let [length, list_length] = vector.numbers::<2>();
+    let code: u32 = narrowed(vector.number());
     let mut out = [0u8; 50000];
     fill_bytes(&mut out);
     let mut list = [0u8; 1000];
     fill_bytes(&mut list);
-    let Some(part) = out.get_mut(..length as usize) else {
-        return false;
-    };
-    let Some(list_part) = list.get_mut(..list_length as usize) else {
-        return false;
-    };
-    let found = mending::mend::mend(source, part, list_part);
+    let found = mended(
+        source,
+        out.get_mut(..length as usize),
+        list.get_mut(..list_length as usize),
+    );
     let same = same_bytes(vector, &out, found.length);
     let same_list = same_bytes(vector, &list, found.listed);
-    same && same_list && u64::from(found.code) == code
+    same && same_list && found.code == code
 }
 
 // "the area's length, the code, the bytes written"
 fn save_state(vector: &mut Reader, lent: &Lent) -> bool {
-    let [length, code] = vector.numbers::<2>();
+    let length = vector.number() as usize;
+    let code: u32 = narrowed(vector.number());
     let mut out = [0u8; 2100];
     fill_bytes(&mut out);
-    let Some(part) = out.get_mut(..length as usize) else {
-        return false;
+    let found = match out.get_mut(..length) {
+        Some(part) => { saving::write_state(*lent.state, lent.buys, lent.sells, lent.trades, part) }
+        None => Saved { code: 0, length: 0 },
     };
-    let found = saving::write_state(*lent.state, lent.buys, lent.sells, lent.trades, part);
     let same = same_bytes(vector, &out, found.length);
-    same && u64::from(found.code) == code
+    same && found.code == code
 }
 
 // A function of its own: its parameter lends for reading what `load_state` then writes.
@@ -242,7 +259,8 @@ fn load_state(vector: &mut Reader, lent: &mut Lent) -> bool {
     let source = vector.part_of(&mut bytes);
     let found = read_back(source, lent);
     *lent.state = found.state;
-    u64::from(found.code) == vector.number()
+    let code: u32 = narrowed(vector.number());
+    found.code == code
 }
 
 fn day_file(vector: &mut Reader) -> bool {
