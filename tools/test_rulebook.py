@@ -228,9 +228,9 @@ class InABrowser(unittest.TestCase):
         for part in (
             "trade_price method Market price last = price",
             "The price of a trade: a limit order's by the method",
-            "r ≡ matching.trade_price method condition price last",
+            "result ≡ matching.trade_price method condition price last",
             "market takes all, each at the resting price",
-            "\u2212 PriceCondition::Market => price,",
+            "\u2212 PriceCondition::Market | PriceCondition::Best => price,",
             "+ PriceCondition::Market => last,",
             "04-market-and-best",
         ):
